@@ -1,0 +1,105 @@
+-- What is read lies after where it was read: 16 bytes at least for each coordinate, and a coordinate at least for each run.
+use mathlib.Core.Path.{_≡_, refl, sym, ap, subst, _∙_}
+use mathlib.Core.Bool.{Bool, true, false, cond}
+use mathlib.Core.List.{List, [], _∷_, _++_}
+use Prim.Native.Nat.{ℕ, zero, suc, _+_, _-_, _*_, _^_, _<_, _≤_}
+use native.Mathlib.Omega.{arith}
+use native.Mathlib.Nat.{le-add-right}
+use lib.Dec.{ltb, eqb}
+use lib.ListN.{length, getD}
+use Rattle.fields.specs.Fields.{u32At}
+use Rattle.coords.specs.Walk.{Geometry, Parsed, ok, refused, mapParsed, consParsed, andThen, strideOf, stride, times, listAt, Class, pointClass, lineClass, polygonClass, collectionClass, unknownClass, classOf, contentOf, sridFlag, headerOf, headerOfType, headerAt, geometryFrom, walkOf}
+use Rattle.coords.specs.Runs.{Run, run, coordinateCount, runsOf}
+use Rattle.coords.specs.ReaderRuns.{ParsedRuns, coordinatesRuns, lineRuns, ringsAtRuns, membersAtRuns, walkRuns}
+use Rattle.coords.proofs.Ends.{AfterFive, header-after}
+use Rattle.coords.proofs.Runs.{line-runs, coordinates-runs, rings-runs, members-runs, contentRunsAt, content-runs}
+use Rattle.coords.specs.Counts.{runCounts}
+use Rattle.coords.specs.declared.WkbHeader.{WkbHeader}
+use Rattle.coords.specs.declared.ParsedHeader.{ParsedHeader}
+use Rattle.coords.specs.declared.ParsedHeader.the-variants as header
+use Rattle.coords.specs.declared.Counts.{Counts}
+use Rattle.coords.specs.declared.Counts.the-variants as counts
+use Rattle.coords.proofs.Laws.{oneIf, counts-run}
+use Rattle.coords.proofs.Loops.{plus, prepend-counts}
+
+abbrev pub Inside : ℕ → Counts → Type 0
+Inside at (counts.Accepted a b e) = (16 * a + at ≤ e) × (b ≤ a)
+Inside at (counts.Refused k) = Unit
+
+later : (at at′ : ℕ) (o : Counts) → at ≤ at′ → Inside at′ o → Inside at o
+later at at′ (counts.Accepted a b e) h i = omega arith
+later at at′ (counts.Refused k) h i = tt
+
+inside-plus : (at e a b : ℕ) (o : Counts) → 16 * a + at ≤ e → b ≤ a → Inside e o → Inside at (plus a b o)
+inside-plus at e a b (counts.Accepted x y e′) h g i = omega arith
+inside-plus at e a b (counts.Refused k) h g i = tt
+
+wide : (z m : Bool) (n : ℕ) → 16 * n ≤ n * strideOf z m
+unfolding strideOf
+wide true true n = omega arith
+wide true false n = omega arith
+wide false true n = omega arith
+wide false false n = omega arith
+
+one-le : (n : ℕ) → oneIf n ≤ n
+one-le zero = omega arith
+one-le (suc n) = omega arith
+
+inside-run : (h : WkbHeader) (s : List ℕ) (n at : ℕ) → Inside at (runCounts (coordinatesRuns h s n at))
+unfolding runCounts
+inside-run h s n at = go (ltb (length s) (at + n * stride h)) refl
+  where
+    go : (b : Bool) → ltb (length s) (at + n * stride h) ≡ b → Inside at (runCounts (coordinatesRuns h s n at))
+    go true e = subst (λ (w : ParsedRuns). Inside at (runCounts w)) (sym (coordinates-runs h s n at)) (rw e tt)
+    go false e = subst (λ (o : Counts). Inside at o) (sym (counts-run h s n at e)) (omega (arith, wide (h .z) (h .m) n), one-le n)
+
+-- a test before what is read at at + 4
+after-count : (b : Bool) (at : ℕ) (w : ParsedRuns) → Inside (at + 4) (runCounts w) → Inside at (runCounts (cond b (refused 9) w))
+unfolding runCounts
+after-count true at w i = tt
+after-count false at w i = later at (at + 4) (runCounts w) (omega arith) i
+
+pub inside-line : (h : WkbHeader) (s : List ℕ) (at : ℕ) → Inside at (runCounts (lineRuns h s at))
+inside-line h s at =
+    subst (λ (w : ParsedRuns). Inside at (runCounts w)) (sym (line-runs h s at))
+    (after-count (ltb (length s) (at + 4)) at (coordinatesRuns h s (u32At (h .little) s at) (at + 4)) (inside-run h s (u32At (h .little) s at) (at + 4)))
+
+module _ (f : ℕ → ParsedRuns) (each : (at : ℕ) → Inside at (runCounts (f at))) where
+  inside-times : (n at : ℕ) → Inside at (runCounts (times _++_ [] f n at))
+  unfolding times runCounts coordinateCount
+  inside-times zero at = (omega arith, omega arith)
+  inside-times (suc n) at = go (inside-times n) (f at) (each at)
+    where
+      go : ((e : ℕ) → Inside e (runCounts (times _++_ [] f n e))) → (w : ParsedRuns) → Inside at (runCounts w) → Inside at (runCounts (andThen _++_ w (times _++_ [] f n)))
+      go rest (refused k) i = tt
+      go rest (ok rs e) i = subst (λ (o : Counts). Inside at o) (sym (prepend-counts rs (times _++_ [] f n e))) (inside-plus at e (coordinateCount rs) (length rs) (runCounts (times _++_ [] f n e)) (i .0) (i .1) (rest e))
+
+  inside-list : (little : Bool) (s : List ℕ) (at : ℕ) → Inside at (runCounts (listAt _++_ [] f little s at))
+  unfolding listAt
+  inside-list little s at = after-count (ltb (length s) (at + 4)) at (times _++_ [] f (u32At little s at) (at + 4)) (inside-times (u32At little s at) (at + 4))
+
+inside-content : (c : Class) (levels : ℕ) (s : List ℕ) (each : (at : ℕ) → Inside at (runCounts (walkRuns levels s at))) (h : WkbHeader) → Inside (h .body) (runCounts (contentRunsAt c levels s h))
+unfolding contentRunsAt runCounts
+inside-content pointClass levels s each h = inside-run h s 1 (h .body)
+inside-content lineClass levels s each h = inside-line h s (h .body)
+inside-content polygonClass levels s each h =
+    subst (λ (w : ParsedRuns). Inside (h .body) (runCounts w)) (sym (rings-runs h s (h .body))) (inside-list (lineRuns h s) (inside-line h s) (h .little) s (h .body))
+inside-content collectionClass levels s each h =
+    subst (λ (w : ParsedRuns). Inside (h .body) (runCounts w)) (sym (members-runs levels (h .little) s (h .body))) (inside-list (walkRuns levels s) each (h .little) s (h .body))
+inside-content unknownClass levels s each h = tt
+
+inside-from : (at levels : ℕ) (s : List ℕ) (each : (at : ℕ) → Inside at (runCounts (walkRuns levels s at))) (g : ParsedHeader) → AfterFive at g → Inside at (runCounts (mapParsed runsOf (geometryFrom (walkOf levels s) s g)))
+unfolding geometryFrom runCounts AfterFive mapParsed
+inside-from at levels s each (header.Refused k) p = tt
+inside-from at levels s each (header.Read h) p =
+    later at (h .body) (runCounts (mapParsed runsOf (geometryFrom (walkOf levels s) s (header.Read h)))) (omega (arith, p))
+    (subst (λ (w : ParsedRuns). Inside (h .body) (runCounts w)) (sym (content-runs (classOf (h .kind)) levels s h)) (inside-content (classOf (h .kind)) levels s each h))
+
+pub inside-walk : (levels : ℕ) (s : List ℕ) (at : ℕ) → Inside at (runCounts (walkRuns levels s at))
+unfolding walkOf runCounts mapParsed
+inside-walk zero s at = tt
+inside-walk (suc levels) s at = inside-from at levels s (inside-walk levels s) (headerAt s at) (header-after s at)
+
+-- what a reader's answer says of its numbers
+pub inside-of : (f : ℕ → ParsedRuns) (each : (at : ℕ) → Inside at (runCounts (f at))) (at a b e : ℕ) (o : Counts) → o ≡ runCounts (f at) → o ≡ counts.Accepted a b e → (16 * a + at ≤ e) × (b ≤ a)
+inside-of f each at a b e o p q = subst (λ (x : Counts). Inside at x) (sym p ∙ q) (each at)

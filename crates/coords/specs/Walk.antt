@@ -1,0 +1,183 @@
+-- The walk of a WKB geometry (document 01, Walk): the tree that the bytes at a position hold and the position after it, or the number of a refusal. Definitions only.
+use Prim.Native.Nat.{ℕ, zero, suc, _+_, _*_, _/_, _%_}
+use mathlib.Core.List.{List, [], _∷_}
+use mathlib.Core.Bool.{Bool, true, false, cond, _&&_, _||_}
+use lib.ListN.{length, getD}
+use lib.Dec.{ltb, leb, eqb}
+use Rattle.fields.specs.Fields.{u32At, u64At}
+use Rattle.coords.specs.declared.WkbHeader.{WkbHeader}
+use Rattle.coords.specs.declared.ParsedHeader.{ParsedHeader}
+use Rattle.coords.specs.declared.ParsedHeader.the-variants as header
+
+-- ---- the tree
+
+-- ordinates by their 64-bit patterns; z and m are 0 where the geometry's dimensions lack them
+pub record Coordinate : Type 0 where
+  pub x : ℕ
+  pub y : ℕ
+  pub z : ℕ
+  pub m : ℕ
+
+mutual
+  -- kind, whether it has z, whether it has m, content
+  pub data Geometry : Type 0 where
+    geometry : ℕ → Bool → Bool → Content → Geometry
+
+  pub data Content : Type 0 where
+    point : Coordinate → Content
+    line : List Coordinate → Content
+    rings : List (List Coordinate) → Content
+    members : Members → Content
+
+  pub data Members : Type 0 where
+    none : Members
+    more : Geometry → Members → Members
+
+-- what was read and the position after it, or the refusal's number
+pub data Parsed (A : Type 0) : Type 0 where
+  ok : A → ℕ → Parsed A
+  refused : ℕ → Parsed A
+
+unfoldable pub mapParsed : {A B : Type 0} → (A → B) → Parsed A → Parsed B
+mapParsed f (ok a end) = ok (f a) end
+mapParsed f (refused k) = refused k
+
+-- 9 where the bytes end before a position
+abbrev pub needBytes : {A : Type 0} → List ℕ → ℕ → Parsed A → Parsed A
+needBytes s end r = cond (ltb (length s) end) (refused 9) r
+
+-- ---- the header of a geometry
+
+-- v / 1000, v being the type's low 16 bits
+abbrev pub thousandsOf : ℕ → ℕ
+thousandsOf code = code % 65536 / 1000
+
+unfoldable pub zOf : ℕ → Bool
+zOf code = cond (eqb (thousandsOf code) 1) true (cond (eqb (thousandsOf code) 2) false (cond (eqb (thousandsOf code) 3) true (leb 2147483648 code)))
+
+unfoldable pub mOf : ℕ → Bool
+mOf code = cond (eqb (thousandsOf code) 1) false (cond (eqb (thousandsOf code) 2) true (cond (eqb (thousandsOf code) 3) true (eqb (code / 1073741824 % 2) 1)))
+
+-- whether 4 SRID bytes follow the type
+abbrev pub sridFlag : ℕ → Bool
+sridFlag code = eqb (code / 536870912 % 2) 1
+
+-- the kind is v mod 1000
+abbrev pub headerOf : Bool → ℕ → ℕ → WkbHeader
+headerOf little code body = record { little = little; z = zOf code; m = mOf code; kind = code % 65536 % 1000; body = body }
+
+-- the type is read: 9 if the SRID is missing
+unfoldable pub headerOfType : List ℕ → Bool → ℕ → ℕ → ParsedHeader
+headerOfType s little code at =
+    cond (sridFlag code)
+    (cond (ltb (length s) (at + 9)) (header.Refused 9) (header.Read (headerOf little code (at + 9))))
+    (header.Read (headerOf little code (at + 5)))
+
+-- byte order, type and SRID at a position: 9 and 10
+unfoldable pub headerAt : List ℕ → ℕ → ParsedHeader
+headerAt s at =
+    cond (ltb (length s) (at + 5)) (header.Refused 9)
+    (cond (ltb 1 (getD s at 0)) (header.Refused 10)
+    (headerOfType s (eqb (getD s at 0) 1) (u32At (eqb (getD s at 0) 1) s (at + 1)) at))
+
+-- ---- coordinates
+
+unfoldable pub strideOf : Bool → Bool → ℕ
+strideOf true true = 32
+strideOf true false = 24
+strideOf false true = 24
+strideOf false false = 16
+
+abbrev pub stride : WkbHeader → ℕ
+stride h = strideOf (h .z) (h .m)
+
+-- an ordinate that may be missing
+unfoldable pub ordinateIf : Bool → Bool → List ℕ → ℕ → ℕ
+ordinateIf true little s at = u64At little s at
+ordinateIf false little s at = 0
+
+-- m follows z, or y where there is no z
+unfoldable pub mOffset : Bool → ℕ
+mOffset true = 24
+mOffset false = 16
+
+unfoldable pub coordinateAt : WkbHeader → List ℕ → ℕ → Coordinate
+coordinateAt h s at =
+    record {
+      x = u64At (h .little) s at;
+      y = u64At (h .little) s (at + 8);
+      z = ordinateIf (h .z) (h .little) s (at + 16);
+      m = ordinateIf (h .m) (h .little) s (at + mOffset (h .z));
+    }
+
+unfoldable pub coordinatesFrom : WkbHeader → List ℕ → ℕ → ℕ → List Coordinate
+coordinatesFrom h s zero at = []
+coordinatesFrom h s (suc n) at = coordinateAt h s at ∷ coordinatesFrom h s n (at + stride h)
+
+unfoldable pub pointAt : WkbHeader → List ℕ → ℕ → Parsed Coordinate
+pointAt h s at = needBytes s (at + stride h) (ok (coordinateAt h s at) (at + stride h))
+
+-- n coordinates
+unfoldable pub coordinatesAt : WkbHeader → List ℕ → ℕ → ℕ → Parsed (List Coordinate)
+coordinatesAt h s n at = needBytes s (at + n * stride h) (ok (coordinatesFrom h s n at) (at + n * stride h))
+
+-- a count, and as many coordinates
+unfoldable pub lineAt : WkbHeader → List ℕ → ℕ → Parsed (List Coordinate)
+lineAt h s at = needBytes s (at + 4) (coordinatesAt h s (u32At (h .little) s at) (at + 4))
+
+-- ---- lists
+
+abbrev pub consParsed : {A B : Type 0} → (A → B → B) → A → Parsed B → Parsed B
+consParsed cons a (refused k) = refused k
+consParsed cons a (ok b end) = ok (cons a b) end
+
+abbrev pub andThen : {A B : Type 0} → (A → B → B) → Parsed A → (ℕ → Parsed B) → Parsed B
+andThen cons (refused k) rest = refused k
+andThen cons (ok a next) rest = consParsed cons a (rest next)
+
+-- n things one after the other, each read by f
+unfoldable pub times : {A B : Type 0} → (A → B → B) → B → (ℕ → Parsed A) → ℕ → ℕ → Parsed B
+times cons nil f zero at = ok nil at
+times cons nil f (suc n) at = andThen cons (f at) (times cons nil f n)
+
+-- a count, and as many things
+unfoldable pub listAt : {A B : Type 0} → (A → B → B) → B → (ℕ → Parsed A) → Bool → List ℕ → ℕ → Parsed B
+listAt cons nil f little s at = needBytes s (at + 4) (times cons nil f (u32At little s at) (at + 4))
+
+-- a ring count, then each ring like a line
+abbrev pub ringsAt : WkbHeader → List ℕ → ℕ → Parsed (List (List Coordinate))
+ringsAt h s at = listAt _∷_ [] (lineAt h s) (h .little) s at
+
+-- a count of geometries, each read by f
+abbrev pub membersAt : (ℕ → Parsed Geometry) → Bool → List ℕ → ℕ → Parsed Members
+membersAt f little s at = listAt more none f little s at
+
+-- ---- geometries
+
+pub data Class : Type 0 where
+  pointClass lineClass polygonClass collectionClass unknownClass : Class
+
+-- 1 point, 2 line, 3 polygon, 17 triangle, 4 to 7, 15 and 16 collections, nothing else
+unfoldable pub classOf : ℕ → Class
+classOf k =
+    cond (eqb k 1) pointClass
+    (cond (eqb k 2) lineClass
+    (cond (eqb k 3 || eqb k 17) polygonClass
+    (cond ((leb 4 k && leb k 7) || (eqb k 15 || eqb k 16)) collectionClass unknownClass)))
+
+-- what follows a header; f reads a member
+unfoldable pub contentOf : Class → (ℕ → Parsed Geometry) → List ℕ → WkbHeader → Parsed Content
+contentOf pointClass f s h = mapParsed point (pointAt h s (h .body))
+contentOf lineClass f s h = mapParsed line (lineAt h s (h .body))
+contentOf polygonClass f s h = mapParsed rings (ringsAt h s (h .body))
+contentOf collectionClass f s h = mapParsed members (membersAt f (h .little) s (h .body))
+contentOf unknownClass f s h = refused 11
+
+unfoldable pub geometryFrom : (ℕ → Parsed Geometry) → List ℕ → ParsedHeader → Parsed Geometry
+geometryFrom f s (header.Refused k) = refused k
+geometryFrom f s (header.Read h) = mapParsed (geometry (h .kind) (h .z) (h .m)) (contentOf (classOf (h .kind)) f s h)
+
+-- the geometry at a position, with so many levels left: 33 at the top, as level 32 is the last that is read
+unfoldable pub walkOf : ℕ → List ℕ → ℕ → Parsed Geometry
+walkOf zero s at = refused 12
+walkOf (suc levels) s at = geometryFrom (walkOf levels s) s (headerAt s at)

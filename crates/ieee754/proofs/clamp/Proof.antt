@@ -1,0 +1,16 @@
+-- `roots::clamped` meets its contract. Assumes nothing.
+use Rattle.ieee754.specs.Helpers.{clamp-low, clamp-high, clamp-in}
+use Rattle.ieee754.proofs.clamp.Statement.{statement}
+use Rattle.ieee754.proofs.clamp.Tie as tie
+
+returns : tie.Need-returns
+returns c = clamp-low (c .before .args .x) (c .if1 .taken)
+
+returns-2 : tie.Need-returns-2
+returns-2 c = clamp-high (c .before .before .args .x) (c .before .if1 .left) (c .if2 .taken)
+
+returns-3 : tie.Need-returns-3
+returns-3 c = clamp-in (c .before .before .args .x) (c .before .if1 .left) (c .if2 .left)
+
+pub clamp-spec : {M : Type 1} → statement M
+clamp-spec = tie.close (tie.spec returns returns-2 returns-3)

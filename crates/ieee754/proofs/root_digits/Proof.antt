@@ -1,0 +1,62 @@
+-- `roots::digits` meets its contract. The invariant of its loop is `Turn`. Assumes nothing.
+use mathlib.Core.Path.{_≡_, sym, subst}
+use mathlib.Core.Logic.{⊎-elim}
+use Prim.Native.Nat.{ℕ, _+_, _-_, _*_, _/_, _%_, _^_, _≤_, _<_}
+use native.Mathlib.Omega.{arith}
+use Rattle.ieee754.specs.Steps.{Turn, start, zero-digit, one-digit, finish}
+use Rattle.ieee754.proofs.root_digits.Statement.{statement}
+use Rattle.ieee754.proofs.root_digits.Tie as tie
+use Rattle.ieee754.proofs.root_digits.Reads as reads
+use Rattle.ieee754.proofs.root_digits.Lts as lts
+
+abbrev Inv-loop : tie.InvT-loop
+Inv-loop m q₀ rest₀ x₀ i₀ q rest x i = Turn m q rest x i
+
+abbrev μ-loop : tie.MeasureT-loop
+μ-loop m q₀ rest₀ x₀ i₀ q rest x i = 53 - i
+
+loop-holds : tie.Need-loop-holds Inv-loop μ-loop
+loop-holds c = start (c .args .m) (c .pre)
+
+mul-x : tie.Need-mul-x Inv-loop μ-loop
+mul-x c = omega arith
+
+mul-rest : tie.Need-mul-rest Inv-loop μ-loop
+mul-rest c = omega arith
+
+add-rest : tie.Need-add-rest Inv-loop μ-loop
+add-rest c = omega arith
+
+mul-t : tie.Need-mul-t Inv-loop μ-loop
+mul-t c = omega arith
+
+add-t : tie.Need-add-t Inv-loop μ-loop
+add-t c = omega arith
+
+mul-q : tie.Need-mul-q Inv-loop μ-loop
+mul-q c = omega arith
+
+add-q : tie.Need-add-q Inv-loop μ-loop
+add-q c = omega arith
+
+add-i : tie.Need-add-i Inv-loop μ-loop
+add-i c = omega arith
+
+loop-less : tie.Need-loop-less Inv-loop μ-loop
+loop-less c = omega arith
+
+loop-again : tie.Need-loop-again Inv-loop μ-loop
+loop-again c =
+    let l = c .before .before .loop in
+    let m = c .before .before .before .args .m in
+    let h : l .i < 53 = omega arith in
+    ⊎-elim
+    (λ w. rw (w .1, w .2) (one-digit m (l .q) (l .rest) (l .x) (l .i) h (l .inv) (w .0 .taken)))
+    (λ w. rw (w .1, w .2) (zero-digit m (l .q) (l .rest) (l .x) (l .i) h (l .inv) (w .0 .left)))
+    (c .if1 .came)
+
+returns : tie.Need-returns Inv-loop μ-loop
+returns c = let l = c .before .loop in finish (c .before .before .args .m) (l .q) (l .rest) (l .x) (l .i) (omega arith) (l .inv)
+
+pub root-digits-spec : {M : Type 1} → statement M
+root-digits-spec = tie.close (tie.spec Inv-loop μ-loop loop-holds mul-x mul-rest add-rest mul-t add-t mul-q add-q add-i loop-less loop-again returns)

@@ -1,0 +1,224 @@
+// The filling pass of the walk: ordinates and runs into lent memory, once the checking pass has refused nothing.
+use fields::f64_at;
+use fields::u32_at;
+use coords::Counts;
+use coords::ParsedHeader;
+use coords::WkbHeader;
+ghost use mathlib.Core.Path.{_≡_};
+ghost use Prim.Native.Nat.{_+_, _*_, _≤_};
+ghost use lib.ListN.{length};
+ghost use lib.Seq.{sets};
+ghost use lib.Ieee.{binary64, ofBits};
+ghost use Rattle.coords.specs.Walk.{stride, strideOf, ordinateIf, coordinateAt, coordinatesFrom, walkOf};
+ghost use Rattle.coords.specs.ReaderRuns.{coordinatesRuns, lineRuns, ringsAtRuns, membersAtRuns, walkRuns};
+ghost use Rattle.workspace.specs.Workspace.{floatsPerCoordinate, coordinateFloats, coordinatesFloats};
+ghost use Rattle.workspace.specs.Fill.{Ready, Filled};
+ghost use Rattle.workspace.specs.Outcome.{ReadOutcome};
+
+// Coordinates and runs that are written, and the next position of the walk.
+pub struct Progress {
+    pub coords: usize,
+    pub runs: usize,
+    pub next: usize,
+}
+
+// The z of a coordinate, or 0 where there is none.
+fn z_at(s: &[u8], z: bool, m: bool, little: bool, at: usize) -> f64
+    requires { ⌜ at + strideOf z m ≤ length (now s) ⌝ }
+    ensures { λ r. ⌜ r ≡ ofBits binary64 (ordinateIf z little (now (s .entry)) (at + 16)) ⌝ }
+{
+    if z { f64_at(s, at + 16, little) } else { 0.0 }
+}
+
+// The coordinate at a position, as the i-th.
+fn put_coordinate(s: &[u8], h: WkbHeader, at: usize, floats: &mut [f64], i: usize)
+    requires { ⌜ at + stride h ≤ length (now s) ⌝ }
+    requires { ⌜ floatsPerCoordinate * (i + 1) ≤ length (now floats) ⌝ }
+    ensures { λ _. ⌜ now (floats .exit) ≡ sets (now (floats .entry)) (floatsPerCoordinate * i) (coordinateFloats (coordinateAt h (now (s .entry)) at)) ⌝ }
+{
+    let k = 3 * i;
+    let x = f64_at(s, at, h.little);
+    let y = f64_at(s, at + 8, h.little);
+    let z = z_at(s, h.z, h.m, h.little, at);
+    floats[k] = x;
+    floats[k + 1] = y;
+    floats[k + 2] = z;
+}
+
+// n coordinates from a position on, as the i-th and on.
+fn put_coordinates(s: &[u8], h: WkbHeader, n: usize, at: usize, floats: &mut [f64], i: usize)
+    requires { ⌜ at + n * stride h ≤ length (now s) ⌝ }
+    requires { ⌜ floatsPerCoordinate * (i + n) ≤ length (now floats) ⌝ }
+    ensures { λ _. ⌜ now (floats .exit) ≡ sets (now (floats .entry)) (floatsPerCoordinate * i) (coordinatesFloats (coordinatesFrom h (now (s .entry)) n at)) ⌝ }
+{
+    let stride = coords::stride_of(h.z, h.m);
+    let mut left = n;
+    let mut pos = at;
+    let mut j = i;
+    while 0 < left {
+        put_coordinate(s, h, pos, floats, j);
+        pos += stride;
+        j += 1;
+        left -= 1;
+    }
+}
+
+// A run of n coordinates.
+fn fill_run(
+    s: &[u8],
+    h: WkbHeader,
+    n: u32,
+    p: Progress,
+    floats: &mut [f64],
+    table: &mut [u32],
+) -> Progress
+    requires { ⌜ Ready (coordinatesRuns h (now s) n (p .next)) p (length (now floats)) (length (now table)) ⌝ }
+    ensures { λ r. ⌜ Filled (coordinatesRuns h (now (s .entry)) n (p .next)) p (now (floats .entry)) (now (table .entry)) (now (floats .exit)) (now (table .exit)) r ⌝ }
+{
+    let count = n as usize;
+    let at = p.next;
+    let coords = p.coords;
+    let runs = p.runs;
+    if count == 0 {
+        return Progress {
+            coords,
+            runs,
+            next: at,
+        };
+    }
+    let total = count * coords::stride_of(h.z, h.m);
+    put_coordinates(s, h, count, at, floats, coords);
+    let k = 2 * runs;
+    table[k] = h.kind;
+    table[k + 1] = n;
+    Progress {
+        coords: coords + count,
+        runs: runs + 1,
+        next: at + total,
+    }
+}
+
+// A count, and as many coordinates.
+fn fill_line(s: &[u8], h: WkbHeader, p: Progress, floats: &mut [f64], table: &mut [u32]) -> Progress
+    requires { ⌜ Ready (lineRuns h (now s) (p .next)) p (length (now floats)) (length (now table)) ⌝ }
+    ensures { λ r. ⌜ Filled (lineRuns h (now (s .entry)) (p .next)) p (now (floats .entry)) (now (table .entry)) (now (floats .exit)) (now (table .exit)) r ⌝ }
+{
+    let at = p.next;
+    let n = u32_at(s, at, h.little);
+    let q = Progress {
+        coords: p.coords,
+        runs: p.runs,
+        next: at + 4,
+    };
+    fill_run(s, h, n, q, floats, table)
+}
+
+// A count of rings, and as many rings.
+fn fill_rings(
+    s: &[u8],
+    h: WkbHeader,
+    p: Progress,
+    floats: &mut [f64],
+    table: &mut [u32],
+) -> Progress
+    requires { ⌜ Ready (ringsAtRuns h (now s) (p .next)) p (length (now floats)) (length (now table)) ⌝ }
+    ensures { λ r. ⌜ Filled (ringsAtRuns h (now (s .entry)) (p .next)) p (now (floats .entry)) (now (table .entry)) (now (floats .exit)) (now (table .exit)) r ⌝ }
+{
+    let at = p.next;
+    let mut left = u32_at(s, at, h.little);
+    let mut place = Progress {
+        coords: p.coords,
+        runs: p.runs,
+        next: at + 4,
+    };
+    while 0 < left {
+        place = fill_line(s, h, place, floats, table);
+        left -= 1;
+    }
+    place
+}
+
+// A count of members, and as many geometries, with so many levels left.
+fn fill_members(
+    s: &[u8],
+    little: bool,
+    p: Progress,
+    levels: usize,
+    floats: &mut [f64],
+    table: &mut [u32],
+) -> Progress
+    requires { ⌜ Ready (membersAtRuns levels little (now s) (p .next)) p (length (now floats)) (length (now table)) ⌝ }
+    ensures { λ r. ⌜ Filled (membersAtRuns levels little (now (s .entry)) (p .next)) p (now (floats .entry)) (now (table .entry)) (now (floats .exit)) (now (table .exit)) r ⌝ }
+{
+    let at = p.next;
+    let mut left = u32_at(s, at, little);
+    let mut place = Progress {
+        coords: p.coords,
+        runs: p.runs,
+        next: at + 4,
+    };
+    while 0 < left {
+        place = fill_geometry(s, place, levels, floats, table);
+        left -= 1;
+    }
+    place
+}
+
+// The geometry at the next position, with so many levels left.
+pub fn fill_geometry(
+    s: &[u8],
+    p: Progress,
+    levels: usize,
+    floats: &mut [f64],
+    table: &mut [u32],
+) -> Progress
+    requires { ⌜ Ready (walkRuns levels (now s) (p .next)) p (length (now floats)) (length (now table)) ⌝ }
+    ensures { λ r. ⌜ Filled (walkRuns levels (now (s .entry)) (p .next)) p (now (floats .entry)) (now (table .entry)) (now (floats .exit)) (now (table .exit)) r ⌝ }
+{
+    if levels == 0 {
+        return p;
+    }
+    let at = p.next;
+    match coords::read_header(s, at) {
+        ParsedHeader::Refused(_) => p,
+        ParsedHeader::Read(h) => {
+            let kind = h.kind;
+            let q = Progress {
+                coords: p.coords,
+                runs: p.runs,
+                next: h.body,
+            };
+            match kind {
+                1 => fill_run(s, h, 1, q, floats, table),
+                2 => fill_line(s, h, q, floats, table),
+                3 | 17 => fill_rings(s, h, q, floats, table),
+                4..=7 | 15 | 16 => fill_members(s, h.little, q, levels - 1, floats, table),
+                _ => p,
+            }
+        }
+    }
+}
+
+// The geometry at a position into lent memory: both passes.
+pub fn read_at(s: &[u8], at: usize, levels: usize, floats: &mut [f64], table: &mut [u32]) -> Counts
+    ensures { λ r. ⌜ ReadOutcome (walkOf levels (now (s .entry)) at) (now (floats .entry)) (now (table .entry)) (now (floats .exit)) (now (table .exit)) r ⌝ }
+{
+    match coords::count_geometry(s, at, levels) {
+        Counts::Refused(k) => Counts::Refused(k),
+        Counts::Accepted { coords, runs, end } => {
+            if floats.len() / 3 < coords {
+                return Counts::Refused(15);
+            }
+            if table.len() / 2 < runs {
+                return Counts::Refused(15);
+            }
+            let start = Progress {
+                coords: 0,
+                runs: 0,
+                next: at,
+            };
+            let last = fill_geometry(s, start, levels, floats, table);
+            Counts::Accepted { coords, runs, end }
+        }
+    }
+}
