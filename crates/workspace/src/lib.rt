@@ -1,9 +1,9 @@
 // The filling pass of the walk: ordinates and runs into lent memory, once the checking pass has refused nothing.
-use fields::f64_at;
-use fields::u32_at;
 use coords::Counts;
 use coords::ParsedHeader;
 use coords::WkbHeader;
+use fields::f64_at;
+use fields::u32_at;
 ghost use mathlib.Core.Path.{_≡_};
 ghost use Prim.Native.Nat.{_+_, _*_, _≤_};
 ghost use lib.ListN.{length};
