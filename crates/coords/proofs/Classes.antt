@@ -1,16 +1,16 @@
--- Which class of content a kind's number names, by the tests that a match makes, and a geometry by its head.
+-- Which class of content a kind's number names, by the tests that a match makes, and a geometry by its head. Assumes nothing.
 use mathlib.Core.Path.{_≡_, refl, sym, ap, _∙_}
 use mathlib.Core.Logic.{_⊎_, ⊎-elim}
 use mathlib.Core.Bool.{Bool, true, false}
 use mathlib.Core.List.{List}
-use Prim.Native.Nat.{ℕ, zero, suc, _+_, _-_, _<_, _≤_}
+use Prim.Native.Nat.{ℕ, zero, suc, _-_, _<_, _≤_}
 use native.Mathlib.Numerals.{sub-one}
 use native.Mathlib.Omega.{arith}
 use lib.Dec.{eqb}
 use borrow.Author.Tests.{le-leb, lt-leb, ne-eqb, eqb-false}
-use Rattle.coords.specs.Walk.{Geometry, Parsed, refused, mapParsed, Class, pointClass, lineClass, polygonClass, collectionClass, unknownClass, classOf, contentOf, headerAt, geometryFrom, walkOf}
-use Rattle.coords.specs.Runs.{runsOf}
-use Rattle.coords.specs.ReaderRuns.{walkRuns}
+use Rattle.coords.specs.Walk.{refused, mapParsed, Class, pointClass, lineClass, polygonClass, collectionClass, unknownClass, classOf, headerAt, geometryFrom, walkOf}
+use Rattle.coords.specs.Parts.{runsOf}
+use Rattle.coords.specs.Inner.{walkRuns}
 use Rattle.coords.proofs.Runs.{contentRunsAt, content-runs}
 use Rattle.coords.specs.declared.WkbHeader.{WkbHeader}
 use Rattle.coords.specs.declared.ParsedHeader.{ParsedHeader}

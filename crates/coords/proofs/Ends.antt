@@ -1,8 +1,8 @@
--- Where a geometry ends: after its header's first five bytes, and in the blob.
-use mathlib.Core.Path.{_≡_, refl, sym, ap, subst, _∙_}
+-- Where a geometry ends: after its header's first five bytes, and in the blob. Assumes nothing.
+use mathlib.Core.Path.{_≡_, refl, subst}
 use mathlib.Core.Bool.{Bool, true, false, cond}
 use mathlib.Core.List.{List, [], _∷_}
-use Prim.Native.Nat.{ℕ, zero, suc, _+_, _*_, _<_, _≤_}
+use Prim.Native.Nat.{ℕ, zero, suc, _+_, _*_, _≤_}
 use native.Mathlib.Omega.{arith}
 use lib.Dec.{ltb, eqb}
 use lib.ListN.{length, getD}
@@ -11,7 +11,7 @@ use Rattle.fields.specs.Fields.{u32At}
 use Rattle.coords.specs.declared.WkbHeader.{WkbHeader}
 use Rattle.coords.specs.declared.ParsedHeader.{ParsedHeader}
 use Rattle.coords.specs.declared.ParsedHeader.the-variants as header
-use Rattle.coords.specs.Walk.{Geometry, geometry, Content, point, line, rings, members, none, more, Parsed, ok, refused, mapParsed, stride, coordinateAt, coordinatesFrom, pointAt, coordinatesAt, lineAt, consParsed, andThen, times, listAt, ringsAt, membersAt, Class, pointClass, lineClass, polygonClass, collectionClass, unknownClass, classOf, contentOf, sridFlag, headerOf, headerOfType, headerAt, geometryFrom, walkOf}
+use Rattle.coords.specs.Walk.{Geometry, geometry, Content, point, line, rings, members, none, more, Parsed, ok, refused, mapParsed, stride, coordinateAt, coordinatesFrom, pointAt, coordinatesAt, lineAt, consParsed, andThen, times, listAt, ringsAt, membersAt, Class, pointClass, lineClass, polygonClass, collectionClass, unknownClass, classOf, contentOf, hasFlag, headerOf, headerOfType, headerAt, geometryFrom, walkOf}
 
 -- a header has at least five bytes
 unfoldable pub AfterFive : ℕ → ParsedHeader → Type 0
@@ -31,7 +31,7 @@ unfolding headerAt headerOfType
 header-after s p =
     let little = eqb (getD s p 0) 1 in
     let code = u32At little s (p + 1) in
-    after-tests (ltb (length s) (p + 5)) (ltb 1 (getD s p 0)) (sridFlag code) (ltb (length s) (p + 9)) p (headerOf little code (p + 9)) (headerOf little code (p + 5)) (omega arith) (omega arith)
+    after-tests (ltb (length s) (p + 5)) (ltb 1 (getD s p 0)) (hasFlag 0x20000000 code) (ltb (length s) (p + 9)) p (headerOf little code (p + 9)) (headerOf little code (p + 5)) (omega arith) (omega arith)
 
 module _ (s : List ℕ) where
   -- what was read from p on ends in the blob

@@ -1,17 +1,16 @@
--- What is read lies after where it was read: 16 bytes at least for each coordinate, and a coordinate at least for each run.
-use mathlib.Core.Path.{_≡_, refl, sym, ap, subst, _∙_}
+-- What is read lies after where it was read: 16 bytes at least for each coordinate, and a coordinate at least for each run. Assumes nothing.
+use mathlib.Core.Path.{_≡_, refl, sym, subst, _∙_}
 use mathlib.Core.Bool.{Bool, true, false, cond}
-use mathlib.Core.List.{List, [], _∷_, _++_}
-use Prim.Native.Nat.{ℕ, zero, suc, _+_, _-_, _*_, _^_, _<_, _≤_}
+use mathlib.Core.List.{List, [], _++_}
+use Prim.Native.Nat.{ℕ, zero, suc, _+_, _-_, _*_, _≤_}
 use native.Mathlib.Omega.{arith}
-use native.Mathlib.Nat.{le-add-right}
-use lib.Dec.{ltb, eqb}
-use lib.ListN.{length, getD}
+use lib.Dec.{ltb}
+use lib.ListN.{length}
 use Rattle.fields.specs.Fields.{u32At}
-use Rattle.coords.specs.Walk.{Geometry, Parsed, ok, refused, mapParsed, consParsed, andThen, strideOf, stride, times, listAt, Class, pointClass, lineClass, polygonClass, collectionClass, unknownClass, classOf, contentOf, sridFlag, headerOf, headerOfType, headerAt, geometryFrom, walkOf}
-use Rattle.coords.specs.Runs.{Run, run, coordinateCount, runsOf}
-use Rattle.coords.specs.ReaderRuns.{ParsedRuns, coordinatesRuns, lineRuns, ringsAtRuns, membersAtRuns, walkRuns}
-use Rattle.coords.proofs.Ends.{AfterFive, header-after}
+use Rattle.coords.specs.Walk.{Coordinate, Geometry, Parsed, ok, refused, mapParsed, andThen, strideOf, stride, times, listAt, Class, pointClass, lineClass, polygonClass, collectionClass, unknownClass, classOf, headerAt, geometryFrom, walkOf}
+use Rattle.coords.specs.Parts.{Run, coordinateCount, runsOf, walkedRuns}
+use Rattle.coords.specs.Inner.{ParsedRuns, coordinatesRuns, lineRuns, walkRuns}
+use Rattle.coords.proofs.Ends.{AfterFive, header-after, walk-end}
 use Rattle.coords.proofs.Runs.{line-runs, coordinates-runs, rings-runs, members-runs, contentRunsAt, content-runs}
 use Rattle.coords.specs.Counts.{runCounts}
 use Rattle.coords.specs.declared.WkbHeader.{WkbHeader}
@@ -34,12 +33,12 @@ inside-plus : (at e a b : ℕ) (o : Counts) → 16 * a + at ≤ e → b ≤ a �
 inside-plus at e a b (counts.Accepted x y e′) h g i = omega arith
 inside-plus at e a b (counts.Refused k) h g i = tt
 
-wide : (z m : Bool) (n : ℕ) → 16 * n ≤ n * strideOf z m
+wide-run : (z m : Bool) (n : ℕ) → 16 * n ≤ n * strideOf z m
 unfolding strideOf
-wide true true n = omega arith
-wide true false n = omega arith
-wide false true n = omega arith
-wide false false n = omega arith
+wide-run true true n = omega arith
+wide-run true false n = omega arith
+wide-run false true n = omega arith
+wide-run false false n = omega arith
 
 one-le : (n : ℕ) → oneIf n ≤ n
 one-le zero = omega arith
@@ -51,7 +50,7 @@ inside-run h s n at = go (ltb (length s) (at + n * stride h)) refl
   where
     go : (b : Bool) → ltb (length s) (at + n * stride h) ≡ b → Inside at (runCounts (coordinatesRuns h s n at))
     go true e = subst (λ (w : ParsedRuns). Inside at (runCounts w)) (sym (coordinates-runs h s n at)) (rw e tt)
-    go false e = subst (λ (o : Counts). Inside at o) (sym (counts-run h s n at e)) (omega (arith, wide (h .z) (h .m) n), one-le n)
+    go false e = subst (λ (o : Counts). Inside at o) (sym (counts-run h s n at e)) (omega (arith, wide-run (h .z) (h .m) n), one-le n)
 
 -- a test before what is read at at + 4
 after-count : (b : Bool) (at : ℕ) (w : ParsedRuns) → Inside (at + 4) (runCounts w) → Inside at (runCounts (cond b (refused 9) w))
@@ -103,3 +102,24 @@ inside-walk (suc levels) s at = inside-from at levels s (inside-walk levels s) (
 -- what a reader's answer says of its numbers
 pub inside-of : (f : ℕ → ParsedRuns) (each : (at : ℕ) → Inside at (runCounts (f at))) (at a b e : ℕ) (o : Counts) → o ≡ runCounts (f at) → o ≡ counts.Accepted a b e → (16 * a + at ≤ e) × (b ≤ a)
 inside-of f each at a b e o p q = subst (λ (x : Counts). Inside at x) (sym p ∙ q) (each at)
+
+-- 16 bytes at least for each coordinate, a coordinate at least for each run, all within the blob
+pub record CountsFit (s : List ℕ) (at end : ℕ) (rs : List (Run Coordinate)) : Type 0 where
+  pub bytes : 16 * coordinateCount rs + at ≤ end
+  pub within : end ≤ length s
+  pub runs : length rs ≤ coordinateCount rs
+
+pub walk-counts : (levels : ℕ) (s : List ℕ) (at : ℕ) (g : Geometry) (end : ℕ) → walkOf levels s at ≡ ok g end → CountsFit s at end (runsOf g)
+unfolding runCounts mapParsed
+walk-counts levels s at g end e =
+    let i : (16 * coordinateCount (runsOf g) + at ≤ end) × (length (runsOf g) ≤ coordinateCount (runsOf g)) = subst (λ (w : Parsed Geometry). Inside at (runCounts (mapParsed runsOf w))) e (inside-walk levels s at) in
+    record { bytes = i .0; within = walk-end s levels at g end e .1; runs = i .1 }
+
+-- for every walk, as a refused one has no runs
+pub walked-counts : (levels : ℕ) (s : List ℕ) (at : ℕ) → (16 * coordinateCount (walkedRuns (walkOf levels s at)) ≤ length s) × (length (walkedRuns (walkOf levels s at)) ≤ coordinateCount (walkedRuns (walkOf levels s at)))
+unfolding walkedRuns coordinateCount
+walked-counts levels s at = go (walkOf levels s at) refl
+  where
+    go : (w : Parsed Geometry) → walkOf levels s at ≡ w → (16 * coordinateCount (walkedRuns w) ≤ length s) × (length (walkedRuns w) ≤ coordinateCount (walkedRuns w))
+    go (ok g end) e = let c = walk-counts levels s at g end e in (omega (arith, c .bytes, c .within), c .runs)
+    go (refused k) e = (omega arith, omega arith)

@@ -1,20 +1,19 @@
--- Laws of the walk's definitions, for the proofs of the functions.
+-- Laws of the walk's definitions, for the proofs of the functions. Assumes nothing.
 use mathlib.Core.Path.{_≡_, refl, sym, ap, _∙_}
-use mathlib.Core.Bool.{Bool, true, false, cond}
-use mathlib.Core.List.{List, [], _∷_, _++_}
+use mathlib.Core.Bool.{Bool, true, false}
+use mathlib.Core.List.{List}
 use Prim.Native.Nat.{ℕ, zero, suc, _+_, _-_, _*_, _^_, _<_, _≤_}
 use native.Mathlib.Nat.{add-zero}
 use native.Mathlib.Omega.{arith}
 use lib.Dec.{ltb}
 use lib.ListN.{length}
 use borrow.Author.Tests.{ltb-true, ltb-false, lt-ltb, le-ltb}
-use Rattle.coords.specs.Walk.{ok, refused, strideOf, stride, coordinatesFrom}
-use Rattle.coords.specs.Runs.{nonEmptyRun, coordinateCount}
-use Rattle.coords.specs.ReaderRuns.{coordinatesRuns}
+use Rattle.coords.specs.Walk.{ok, strideOf, stride, coordinatesFrom}
+use Rattle.coords.specs.Parts.{nonEmptyRun, coordinateCount}
+use Rattle.coords.specs.Inner.{coordinatesRuns}
 use Rattle.coords.proofs.Runs.{coordinates-runs}
 use Rattle.coords.specs.Counts.{runCounts}
 use Rattle.coords.specs.declared.WkbHeader.{WkbHeader}
-use Rattle.coords.specs.declared.Counts.{Counts}
 use Rattle.coords.specs.declared.Counts.the-variants as counts
 
 pub same-short : (len at want : ℕ) → want ≤ len → ltb (len - want) at ≡ ltb len (at + want)

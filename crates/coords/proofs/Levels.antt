@@ -1,7 +1,7 @@
--- The levels that a walk needs: what is read with some levels left is read with any number above the deepest level, and with no fewer.
-use mathlib.Core.Path.{_≡_, refl, sym, ap, subst, _∙_}
+-- The levels that a walk needs: what is read with some levels left is read with any number above the deepest level, and with no fewer. Assumes nothing.
+use mathlib.Core.Path.{_≡_, refl, ap, subst, _∙_}
 use mathlib.Core.Bool.{Bool, true, false, cond}
-use mathlib.Core.List.{List, [], _∷_}
+use mathlib.Core.List.{List}
 use Prim.Native.Nat.{ℕ, zero, suc, _+_, _<_, _≤_}
 use native.Mathlib.Omega.{arith}
 use lib.Dec.{ltb}
@@ -11,8 +11,8 @@ use Rattle.fields.specs.Fields.{u32At}
 use Rattle.coords.specs.declared.WkbHeader.{WkbHeader}
 use Rattle.coords.specs.declared.ParsedHeader.{ParsedHeader}
 use Rattle.coords.specs.declared.ParsedHeader.the-variants as header
-use Rattle.coords.specs.Walk.{Coordinate, Geometry, geometry, Content, point, line, rings, members, Members, none, more, Parsed, ok, refused, mapParsed, consParsed, andThen, times, listAt, pointAt, lineAt, ringsAt, membersAt, Class, pointClass, lineClass, polygonClass, collectionClass, unknownClass, classOf, contentOf, headerAt, geometryFrom, walkOf}
-use Rattle.coords.specs.Runs.{max, deepestLevel, contentLevel, membersLevel}
+use Rattle.coords.specs.Walk.{Geometry, geometry, Content, point, line, rings, members, Members, none, more, Parsed, ok, refused, mapParsed, consParsed, andThen, times, listAt, pointAt, lineAt, ringsAt, membersAt, Class, pointClass, lineClass, polygonClass, collectionClass, unknownClass, classOf, contentOf, headerAt, geometryFrom, walkOf}
+use Rattle.coords.specs.Parts.{max, deepestLevel, contentLevel, membersLevel}
 
 max-le : (a b n : ℕ) → a ≤ n → b ≤ n → max a b ≤ n
 max-le a b n h g = go (ltb a b)

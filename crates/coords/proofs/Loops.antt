@@ -1,18 +1,18 @@
--- What a loop over the things of a list counts, turn by turn, for any reader f of one thing.
+-- What a loop over the things of a list counts, turn by turn, for any reader f of one thing. Assumes nothing.
 use mathlib.Core.Path.{_≡_, refl, sym, ap, _∙_}
 use mathlib.Core.List.{List, [], _∷_, _++_}
 use Prim.Native.Nat.{ℕ, zero, suc, _+_, _-_, _<_, _≤_}
 use native.Mathlib.Nat.{add-zero, zero-add, add-assoc}
 use native.Mathlib.Numerals.{sub-one}
 use native.Mathlib.Omega.{arith}
-use mathlib.Core.Bool.{Bool, true, false}
+use mathlib.Core.Bool.{Bool, false}
 use lib.Dec.{ltb}
 use Rattle.fields.specs.Fields.{u32At}
 use lib.ListN.{length, length-append}
-use Rattle.coords.specs.Walk.{ok, refused, consParsed, andThen, times, listAt}
+use Rattle.coords.specs.Walk.{Coordinate, ok, refused, consParsed, andThen, times, listAt}
 use Rattle.coords.specs.declared.WkbHeader.{WkbHeader}
-use Rattle.coords.specs.Runs.{Run, run, coordinateCount}
-use Rattle.coords.specs.ReaderRuns.{ParsedRuns, lineRuns, ringsAtRuns, membersAtRuns, walkRuns}
+use Rattle.coords.specs.Parts.{Run, run, coordinateCount}
+use Rattle.coords.specs.Inner.{ParsedRuns, lineRuns, ringsAtRuns, membersAtRuns, walkRuns}
 use Rattle.coords.proofs.Runs.{rings-runs, members-runs}
 use Rattle.coords.specs.Counts.{runCounts}
 use Rattle.coords.specs.declared.Counts.{Counts}
@@ -23,12 +23,12 @@ abbrev pub plus : ℕ → ℕ → Counts → Counts
 plus n r (counts.Accepted a b e) = counts.Accepted (n + a) (r + b) e
 plus n r (counts.Refused k) = counts.Refused k
 
-pub coords-append : (rs qs : List Run) → coordinateCount (rs ++ qs) ≡ coordinateCount rs + coordinateCount qs
+pub coords-append : (rs qs : List (Run Coordinate)) → coordinateCount (rs ++ qs) ≡ coordinateCount rs + coordinateCount qs
 unfolding coordinateCount
 coords-append [] qs = sym (zero-add _)
 coords-append (run k vs ∷ rs) qs = ap (λ (n : ℕ). length vs + n) (coords-append rs qs) ∙ sym (add-assoc (length vs) (coordinateCount rs) (coordinateCount qs))
 
-pub prepend-counts : (rs : List Run) (w : ParsedRuns) → runCounts (consParsed _++_ rs w) ≡ plus (coordinateCount rs) (length rs) (runCounts w)
+pub prepend-counts : (rs : List (Run Coordinate)) (w : ParsedRuns) → runCounts (consParsed _++_ rs w) ≡ plus (coordinateCount rs) (length rs) (runCounts w)
 unfolding runCounts
 prepend-counts rs (refused k) = refl
 prepend-counts rs (ok qs e) = simp (coords-append, length-append)

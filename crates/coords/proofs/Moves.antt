@@ -1,4 +1,4 @@
--- A geometry is read alike wherever its bytes stand: what is read from n bytes is read from the same n bytes at another position of another blob.
+-- A geometry is read alike wherever its bytes stand: what is read from n bytes is read from the same n bytes at another position of another blob. Assumes nothing.
 use mathlib.Core.Path.{_≡_, refl, sym, ap, subst, _∙_}
 use mathlib.Core.Bool.{Bool, true, false, cond}
 use mathlib.Core.List.{List, [], _∷_}
@@ -13,7 +13,7 @@ use Rattle.coords.proofs.Laws.{wide}
 use Rattle.coords.specs.declared.WkbHeader.{WkbHeader}
 use Rattle.coords.specs.declared.ParsedHeader.{ParsedHeader}
 use Rattle.coords.specs.declared.ParsedHeader.the-variants as header
-use Rattle.coords.specs.Walk.{Coordinate, Geometry, geometry, Content, point, line, rings, members, Members, none, more, Parsed, ok, refused, mapParsed, strideOf, stride, ordinateIf, mOffset, coordinateAt, coordinatesFrom, pointAt, coordinatesAt, lineAt, consParsed, andThen, times, listAt, ringsAt, membersAt, Class, pointClass, lineClass, polygonClass, collectionClass, unknownClass, classOf, contentOf, sridFlag, headerOf, headerOfType, headerAt, geometryFrom, walkOf}
+use Rattle.coords.specs.Walk.{Coordinate, Geometry, geometry, Content, point, line, rings, members, none, more, Parsed, ok, refused, mapParsed, strideOf, stride, ordinateIf, mOffset, coordinateAt, coordinatesFrom, pointAt, coordinatesAt, lineAt, consParsed, andThen, times, listAt, ringsAt, membersAt, Class, pointClass, lineClass, polygonClass, collectionClass, unknownClass, classOf, contentOf, hasFlag, headerOf, headerOfType, headerAt, geometryFrom, walkOf}
 
 -- n bytes at a of s stand at a′ of s′ too
 module _ (s s′ : List ℕ) (a a′ n : ℕ) (same : (i : ℕ) → i < n → getD s (a + i) 0 ≡ getD s′ (a′ + i) 0) (room : a′ + n ≤ length s′) where
@@ -169,7 +169,7 @@ module _ (s s′ : List ℕ) (a a′ n : ℕ) (same : (i : ℕ) → i < n → ge
 
   header-carries : (p : ℕ) → a ≤ p → HeaderCarries p (headerAt s p) (headerAt s′ (there p))
   unfolding headerAt headerOfType HeaderCarries
-  header-carries p h = go (ltb (length s) (p + 5)) (ltb 1 (getD s p 0)) (sridFlag (u32At (eqb (getD s p 0) 1) s (p + 1))) (ltb (length s) (p + 9)) refl refl
+  header-carries p h = go (ltb (length s) (p + 5)) (ltb 1 (getD s p 0)) (hasFlag 0x20000000 (u32At (eqb (getD s p 0) 1) s (p + 1))) (ltb (length s) (p + 9)) refl refl
     where
       little : Bool
       little = eqb (getD s p 0) 1
@@ -177,7 +177,7 @@ module _ (s s′ : List ℕ) (a a′ n : ℕ) (same : (i : ℕ) → i < n → ge
       code : ℕ
       code = u32At (eqb (getD s p 0) 1) s (p + 1)
 
-      go : (b c d e : Bool) → ltb 1 (getD s p 0) ≡ c → sridFlag (u32At (eqb (getD s p 0) 1) s (p + 1)) ≡ d → HeaderCarries p (cond b (header.Refused 9) (cond c (header.Refused 10) (cond d (cond e (header.Refused 9) (header.Read (headerOf (eqb (getD s p 0) 1) (u32At (eqb (getD s p 0) 1) s (p + 1)) (p + 9)))) (header.Read (headerOf (eqb (getD s p 0) 1) (u32At (eqb (getD s p 0) 1) s (p + 1)) (p + 5)))))) (headerAt s′ (there p))
+      go : (b c d e : Bool) → ltb 1 (getD s p 0) ≡ c → hasFlag 0x20000000 (u32At (eqb (getD s p 0) 1) s (p + 1)) ≡ d → HeaderCarries p (cond b (header.Refused 9) (cond c (header.Refused 10) (cond d (cond e (header.Refused 9) (header.Read (headerOf (eqb (getD s p 0) 1) (u32At (eqb (getD s p 0) 1) s (p + 1)) (p + 9)))) (header.Read (headerOf (eqb (getD s p 0) 1) (u32At (eqb (getD s p 0) 1) s (p + 1)) (p + 5)))))) (headerAt s′ (there p))
       go true c d e p2 p3 = tt
       go false true d e p2 p3 = tt
       go false false true true p2 p3 = tt

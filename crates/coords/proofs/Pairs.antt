@@ -1,5 +1,5 @@
--- A collection of two: how a little-endian header of type 1007 and count 2 before two geometries is walked.
-use mathlib.Core.Path.{_≡_, refl, sym, ap, _∙_}
+-- A collection of two: how a little-endian header of type 1007 and count 2 before two geometries is walked. Assumes nothing.
+use mathlib.Core.Path.{_≡_}
 use mathlib.Core.Bool.{true, false}
 use mathlib.Core.List.{List}
 use Prim.Native.Nat.{ℕ, suc, _+_, _≤_}
@@ -8,7 +8,7 @@ use lib.ListN.{length, getD}
 use borrow.Author.Tests.{le-ltb}
 use Rattle.fields.specs.Fields.{u32At}
 use Rattle.coords.specs.declared.ParsedHeader.the-variants as header
-use Rattle.coords.specs.Walk.{Geometry, geometry, members, Members, none, more, Parsed, ok, mapParsed, zOf, mOf, headerOfType, headerAt, times, listAt, classOf, contentOf, geometryFrom, walkOf}
+use Rattle.coords.specs.Walk.{Geometry, geometry, members, none, more, ok, mapParsed, zOf, mOf, headerOfType, headerAt, times, listAt, classOf, contentOf, geometryFrom, walkOf}
 
 module _ (s : List ℕ) (p : ℕ) (order : getD s p 0 ≡ 1) (type : u32At true s (p + 1) ≡ 1007) where
   pair-header : p + 5 ≤ length s → headerAt s p ≡ header.Read (record { little = true; z = true; m = false; kind = 7; body = p + 5 })

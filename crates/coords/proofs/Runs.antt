@@ -1,4 +1,4 @@
--- The runs of what the walk's readers give, said of runs alone.
+-- The runs of what the walk's readers give, said of runs alone. Assumes nothing.
 use mathlib.Core.Path.{_≡_, refl, sym, ap, _∙_}
 use mathlib.Core.Bool.{Bool, true, false, cond}
 use mathlib.Core.List.{List, [], _∷_, _++_}
@@ -8,9 +8,9 @@ use lib.Dec.{ltb}
 use lib.ListN.{length}
 use Rattle.fields.specs.Fields.{u32At}
 use Rattle.coords.specs.declared.WkbHeader.{WkbHeader}
-use Rattle.coords.specs.Walk.{Coordinate, Geometry, geometry, Content, point, line, rings, members, Members, none, more, Parsed, ok, refused, mapParsed, stride, coordinateAt, coordinatesFrom, pointAt, coordinatesAt, lineAt, consParsed, andThen, times, listAt, ringsAt, membersAt, Class, pointClass, lineClass, polygonClass, collectionClass, unknownClass, contentOf, walkOf}
-use Rattle.coords.specs.Runs.{Run, run, nonEmptyRun, ringsRuns, runsOf, contentRuns, membersRuns}
-use Rattle.coords.specs.ReaderRuns.{ParsedRuns, coordinatesRuns, lineRuns, ringsAtRuns, membersAtRuns, walkRuns}
+use Rattle.coords.specs.Walk.{Coordinate, geometry, Content, point, line, rings, members, none, more, Parsed, ok, refused, mapParsed, stride, coordinateAt, coordinatesFrom, pointAt, coordinatesAt, lineAt, consParsed, andThen, times, listAt, ringsAt, membersAt, Class, pointClass, lineClass, polygonClass, collectionClass, unknownClass, contentOf, walkOf}
+use Rattle.coords.specs.Parts.{Run, run, nonEmptyRun, ringsRuns, runsOf, contentRuns, membersRuns}
+use Rattle.coords.specs.Inner.{ParsedRuns, coordinatesRuns, lineRuns, ringsAtRuns, membersAtRuns, walkRuns}
 
 pub map-needed : {A B : Type 0} (f : A → B) (b : Bool) (r : Parsed A) → mapParsed f (cond b (refused 9) r) ≡ cond b (refused 9) (mapParsed f r)
 unfolding mapParsed
@@ -18,15 +18,15 @@ map-needed f true r = refl
 map-needed f false r = refl
 
 -- the runs of a list are those of its things in order
-module _ {A B : Type 0} (cons : A → B → B) (nil : B) (runs : A → List Run) (all : B → List Run) (at-nil : all nil ≡ []) (at-cons : (a : A) (b : B) → all (cons a b) ≡ runs a ++ all b) (f : ℕ → Parsed A) where
+module _ {A B : Type 0} (cons : A → B → B) (nil : B) (runs : A → List (Run Coordinate)) (all : B → List (Run Coordinate)) (at-nil : all nil ≡ []) (at-cons : (a : A) (b : B) → all (cons a b) ≡ runs a ++ all b) (f : ℕ → Parsed A) where
   map-cons : (a : A) (r : Parsed B) → mapParsed all (consParsed cons a r) ≡ consParsed _++_ (runs a) (mapParsed all r)
   unfolding mapParsed
-  map-cons a (ok b end) = ap (λ (rs : List Run). ok rs end) (at-cons a b)
+  map-cons a (ok b end) = ap (λ (rs : List (Run Coordinate)). ok rs end) (at-cons a b)
   map-cons a (refused k) = refl
 
   map-times : (n at : ℕ) → mapParsed all (times cons nil f n at) ≡ times _++_ [] (λ (i : ℕ). mapParsed runs (f i)) n at
   unfolding times mapParsed
-  map-times zero at = ap (λ (rs : List Run). ok rs at) at-nil
+  map-times zero at = ap (λ (rs : List (Run Coordinate)). ok rs at) at-nil
   map-times (suc n) at = go (map-times n) (f at)
     where
       go : ((i : ℕ) → mapParsed all (times cons nil f n i) ≡ times _++_ [] (λ (j : ℕ). mapParsed runs (f j)) n i) → (r : Parsed A) → mapParsed all (andThen cons r (times cons nil f n)) ≡ andThen _++_ (mapParsed runs r) (times _++_ [] (λ (j : ℕ). mapParsed runs (f j)) n)
@@ -63,9 +63,9 @@ contentRunsAt collectionClass levels s h = membersAtRuns levels (h .little) s (h
 contentRunsAt unknownClass levels s h = refused 11
 
 -- a geometry's runs are its content's
-map-geometry : {A : Type 0} (k : ℕ) (z m : Bool) (content : A → Content) (runs : A → List Run) → ((a : A) → contentRuns k (content a) ≡ runs a) → (r : Parsed A) → mapParsed runsOf (mapParsed (geometry k z m) (mapParsed content r)) ≡ mapParsed runs r
+map-geometry : {A : Type 0} (k : ℕ) (z m : Bool) (content : A → Content) (runs : A → List (Run Coordinate)) → ((a : A) → contentRuns k (content a) ≡ runs a) → (r : Parsed A) → mapParsed runsOf (mapParsed (geometry k z m) (mapParsed content r)) ≡ mapParsed runs r
 unfolding mapParsed runsOf
-map-geometry k z m content runs e (ok a end) = ap (λ (rs : List Run). ok rs end) (e a)
+map-geometry k z m content runs e (ok a end) = ap (λ (rs : List (Run Coordinate)). ok rs end) (e a)
 map-geometry k z m content runs e (refused k′) = refl
 
 point-run : (h : WkbHeader) (s : List ℕ) (at : ℕ) → mapParsed (λ (c : Coordinate). run (h .kind) (c ∷ []) ∷ []) (pointAt h s at) ≡ coordinatesRuns h s 1 at

@@ -1,11 +1,12 @@
--- What the checking pass answers: the numbers of coordinates and of runs, and the end, or the refusal's number.
+-- What the checking pass answers: N, R and the end of the geometry, or the refusal's number. Definitions only.
 use lib.ListN.{length}
 use Rattle.coords.specs.Walk.{Geometry, Parsed, ok, refused, mapParsed}
-use Rattle.coords.specs.Runs.{runsOf, coordinateCount}
-use Rattle.coords.specs.ReaderRuns.{ParsedRuns}
+use Rattle.coords.specs.Parts.{runsOf, coordinateCount}
+use Rattle.coords.specs.Inner.{ParsedRuns}
 use Rattle.coords.specs.declared.Counts.{Counts}
 use Rattle.coords.specs.declared.Counts.the-variants as counts
 
+-- the counts of runs that were read
 unfoldable pub runCounts : ParsedRuns → Counts
 runCounts (ok rs end) = counts.Accepted (coordinateCount rs) (length rs) end
 runCounts (refused k) = counts.Refused k

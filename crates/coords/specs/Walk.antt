@@ -11,7 +11,7 @@ use Rattle.coords.specs.declared.ParsedHeader.the-variants as header
 
 -- ---- the tree
 
--- ordinates by their 64-bit patterns; z and m are 0 where the geometry's dimensions lack them
+-- ordinates by their 64-bit patterns; a missing z or m is 0
 pub record Coordinate : Type 0 where
   pub x : ℕ
   pub y : ℕ
@@ -23,12 +23,14 @@ mutual
   pub data Geometry : Type 0 where
     geometry : ℕ → Bool → Bool → Content → Geometry
 
+  -- one coordinate, a line's, a polygon's or triangle's rings, a collection's members
   pub data Content : Type 0 where
     point : Coordinate → Content
     line : List Coordinate → Content
     rings : List (List Coordinate) → Content
     members : Members → Content
 
+  -- geometries in a row
   pub data Members : Type 0 where
     none : Members
     more : Geometry → Members → Members
@@ -38,11 +40,12 @@ pub data Parsed (A : Type 0) : Type 0 where
   ok : A → ℕ → Parsed A
   refused : ℕ → Parsed A
 
+-- f of what was read
 unfoldable pub mapParsed : {A B : Type 0} → (A → B) → Parsed A → Parsed B
 mapParsed f (ok a end) = ok (f a) end
 mapParsed f (refused k) = refused k
 
--- 9 where the bytes end before a position
+-- refusal 9 where the bytes end before a position
 abbrev pub needBytes : {A : Type 0} → List ℕ → ℕ → Parsed A → Parsed A
 needBytes s end r = cond (ltb (length s) end) (refused 9) r
 
@@ -52,28 +55,42 @@ needBytes s end r = cond (ltb (length s) end) (refused 9) r
 abbrev pub thousandsOf : ℕ → ℕ
 thousandsOf code = code % 65536 / 1000
 
+-- whether a flag of the type, a power of 2, is set (EWKB)
+abbrev pub hasFlag : ℕ → ℕ → Bool
+hasFlag flag code = eqb (code / flag % 2) 1
+
+-- v / 1000 of 1, 2, 3 means XYZ, XYM, XYZM; otherwise flag 80000000 gives Z
 unfoldable pub zOf : ℕ → Bool
-zOf code = cond (eqb (thousandsOf code) 1) true (cond (eqb (thousandsOf code) 2) false (cond (eqb (thousandsOf code) 3) true (leb 2147483648 code)))
+zOf code =
+    cond (eqb (thousandsOf code) 1) true
+    (cond (eqb (thousandsOf code) 2) false
+    (cond (eqb (thousandsOf code) 3) true
+    (hasFlag 0x8000_0000 code)))
 
+-- the same for M: flag 40000000
 unfoldable pub mOf : ℕ → Bool
-mOf code = cond (eqb (thousandsOf code) 1) false (cond (eqb (thousandsOf code) 2) true (cond (eqb (thousandsOf code) 3) true (eqb (code / 1073741824 % 2) 1)))
-
--- whether 4 SRID bytes follow the type
-abbrev pub sridFlag : ℕ → Bool
-sridFlag code = eqb (code / 536870912 % 2) 1
+mOf code =
+    cond (eqb (thousandsOf code) 1) false
+    (cond (eqb (thousandsOf code) 2) true
+    (cond (eqb (thousandsOf code) 3) true
+    (hasFlag 0x4000_0000 code)))
 
 -- the kind is v mod 1000
-abbrev pub headerOf : Bool → ℕ → ℕ → WkbHeader
-headerOf little code body = record { little = little; z = zOf code; m = mOf code; kind = code % 65536 % 1000; body = body }
+abbrev pub kindOf : ℕ → ℕ
+kindOf code = code % 65536 % 1000
 
--- the type is read: 9 if the SRID is missing
+-- byte order, type, and where the content starts
+abbrev pub headerOf : Bool → ℕ → ℕ → WkbHeader
+headerOf little code body = record { little = little; z = zOf code; m = mOf code; kind = kindOf code; body = body }
+
+-- the type is read; 4 SRID bytes follow it if flag 20000000 is set: refusal 9 where they are missing
 unfoldable pub headerOfType : List ℕ → Bool → ℕ → ℕ → ParsedHeader
 headerOfType s little code at =
-    cond (sridFlag code)
+    cond (hasFlag 0x2000_0000 code)
     (cond (ltb (length s) (at + 9)) (header.Refused 9) (header.Read (headerOf little code (at + 9))))
     (header.Read (headerOf little code (at + 5)))
 
--- byte order, type and SRID at a position: 9 and 10
+-- byte order (0 big, 1 little), type and SRID at a position: refusals 9 and 10
 unfoldable pub headerAt : List ℕ → ℕ → ParsedHeader
 headerAt s at =
     cond (ltb (length s) (at + 5)) (header.Refused 9)
@@ -82,6 +99,7 @@ headerAt s at =
 
 -- ---- coordinates
 
+-- the bytes of a coordinate, by whether it has z and m
 unfoldable pub strideOf : Bool → Bool → ℕ
 strideOf true true = 32
 strideOf true false = 24
@@ -91,7 +109,7 @@ strideOf false false = 16
 abbrev pub stride : WkbHeader → ℕ
 stride h = strideOf (h .z) (h .m)
 
--- an ordinate that may be missing
+-- an ordinate that may be missing: 0 then
 unfoldable pub ordinateIf : Bool → Bool → List ℕ → ℕ → ℕ
 ordinateIf true little s at = u64At little s at
 ordinateIf false little s at = 0
@@ -101,6 +119,7 @@ unfoldable pub mOffset : Bool → ℕ
 mOffset true = 24
 mOffset false = 16
 
+-- the coordinate at a position: x, y, then z, m if present
 unfoldable pub coordinateAt : WkbHeader → List ℕ → ℕ → Coordinate
 coordinateAt h s at =
     record {
@@ -110,14 +129,16 @@ coordinateAt h s at =
       m = ordinateIf (h .m) (h .little) s (at + mOffset (h .z));
     }
 
+-- n coordinates from a position on
 unfoldable pub coordinatesFrom : WkbHeader → List ℕ → ℕ → ℕ → List Coordinate
 coordinatesFrom h s zero at = []
 coordinatesFrom h s (suc n) at = coordinateAt h s at ∷ coordinatesFrom h s n (at + stride h)
 
+-- the content of a point
 unfoldable pub pointAt : WkbHeader → List ℕ → ℕ → Parsed Coordinate
 pointAt h s at = needBytes s (at + stride h) (ok (coordinateAt h s at) (at + stride h))
 
--- n coordinates
+-- n coordinates, which the bytes must hold
 unfoldable pub coordinatesAt : WkbHeader → List ℕ → ℕ → ℕ → Parsed (List Coordinate)
 coordinatesAt h s n at = needBytes s (at + n * stride h) (ok (coordinatesFrom h s n at) (at + n * stride h))
 
@@ -127,10 +148,12 @@ lineAt h s at = needBytes s (at + 4) (coordinatesAt h s (u32At (h .little) s at)
 
 -- ---- lists
 
+-- a thing before what was read after it
 abbrev pub consParsed : {A B : Type 0} → (A → B → B) → A → Parsed B → Parsed B
 consParsed cons a (refused k) = refused k
 consParsed cons a (ok b end) = ok (cons a b) end
 
+-- a thing, then the rest from its end on; the first refusal counts
 abbrev pub andThen : {A B : Type 0} → (A → B → B) → Parsed A → (ℕ → Parsed B) → Parsed B
 andThen cons (refused k) rest = refused k
 andThen cons (ok a next) rest = consParsed cons a (rest next)
@@ -148,12 +171,13 @@ listAt cons nil f little s at = needBytes s (at + 4) (times cons nil f (u32At li
 abbrev pub ringsAt : WkbHeader → List ℕ → ℕ → Parsed (List (List Coordinate))
 ringsAt h s at = listAt _∷_ [] (lineAt h s) (h .little) s at
 
--- a count of geometries, each read by f
+-- a count of geometries, each member read by f
 abbrev pub membersAt : (ℕ → Parsed Geometry) → Bool → List ℕ → ℕ → Parsed Members
 membersAt f little s at = listAt more none f little s at
 
 -- ---- geometries
 
+-- what a geometry of some kind holds
 pub data Class : Type 0 where
   pointClass lineClass polygonClass collectionClass unknownClass : Class
 
@@ -165,7 +189,7 @@ classOf k =
     (cond (eqb k 3 || eqb k 17) polygonClass
     (cond ((leb 4 k && leb k 7) || (eqb k 15 || eqb k 16)) collectionClass unknownClass)))
 
--- what follows a header; f reads a member
+-- what follows a header: refusal 11 for an unknown kind; f reads a member
 unfoldable pub contentOf : Class → (ℕ → Parsed Geometry) → List ℕ → WkbHeader → Parsed Content
 contentOf pointClass f s h = mapParsed point (pointAt h s (h .body))
 contentOf lineClass f s h = mapParsed line (lineAt h s (h .body))
@@ -173,11 +197,16 @@ contentOf polygonClass f s h = mapParsed rings (ringsAt h s (h .body))
 contentOf collectionClass f s h = mapParsed members (membersAt f (h .little) s (h .body))
 contentOf unknownClass f s h = refused 11
 
+-- a geometry by its header; f reads a member
 unfoldable pub geometryFrom : (ℕ → Parsed Geometry) → List ℕ → ParsedHeader → Parsed Geometry
 geometryFrom f s (header.Refused k) = refused k
 geometryFrom f s (header.Read h) = mapParsed (geometry (h .kind) (h .z) (h .m)) (contentOf (classOf (h .kind)) f s h)
 
--- the geometry at a position, with so many levels left: 33 at the top, as level 32 is the last that is read
+-- the levels that are read: 0, the top, to 32
+abbrev pub allLevels : ℕ
+allLevels = 33
+
+-- the geometry at a position, with so many levels left to read: refusal 12 where none is
 unfoldable pub walkOf : ℕ → List ℕ → ℕ → Parsed Geometry
 walkOf zero s at = refused 12
 walkOf (suc levels) s at = geometryFrom (walkOf levels s) s (headerAt s at)

@@ -3,8 +3,8 @@ use fields::u32_at;
 ghost use mathlib.Core.Path.{_≡_};
 ghost use Prim.Native.Nat.{_+_};
 ghost use lib.Dec.{ltb};
-ghost use Rattle.coords.specs.Walk.{zOf, mOf, headerAt, strideOf, walkOf};
-ghost use Rattle.coords.specs.ReaderRuns.{coordinatesRuns, lineRuns, ringsAtRuns, membersAtRuns};
+ghost use Rattle.coords.specs.Walk.{zOf, mOf, headerAt, strideOf, allLevels, walkOf};
+ghost use Rattle.coords.specs.Inner.{coordinatesRuns, lineRuns, ringsAtRuns, membersAtRuns};
 ghost use Rattle.coords.specs.Counts.{runCounts, countsOf};
 
 // What the header of a geometry says; its content starts at body.
@@ -31,6 +31,10 @@ pub enum Counts {
     Refused(u8),
 }
 
+// The levels that are read: 0, the top, to 32.
+pub const ALL_LEVELS: usize = 33;
+
+// Whether a type code says that ordinates have a z.
 fn z_of(code: u32) -> bool
     ensures { λ r. ⌜ r ≡ zOf code ⌝ }
 {
@@ -39,10 +43,11 @@ fn z_of(code: u32) -> bool
         1 => true,
         2 => false,
         3 => true,
-        _ => 2147483648 <= code,
+        _ => code / 0x8000_0000 % 2 == 1,
     }
 }
 
+// Whether a type code says that ordinates have an m.
 fn m_of(code: u32) -> bool
     ensures { λ r. ⌜ r ≡ mOf code ⌝ }
 {
@@ -51,11 +56,11 @@ fn m_of(code: u32) -> bool
         1 => false,
         2 => true,
         3 => true,
-        _ => code / 1073741824 % 2 == 1,
+        _ => code / 0x4000_0000 % 2 == 1,
     }
 }
 
-// Whether want bytes are left from at on.
+// Whether fewer than want bytes are left from at on.
 pub fn is_short(len: usize, at: usize, want: usize) -> bool
     ensures { λ r. ⌜ r ≡ ltb len (at + want) ⌝ }
 {
@@ -81,7 +86,7 @@ pub fn read_header(s: &[u8], at: usize) -> ParsedHeader
     let z = z_of(code);
     let m = m_of(code);
     let kind = code % 65536 % 1000;
-    if code / 536870912 % 2 == 1 {
+    if code / 0x2000_0000 % 2 == 1 {
         if is_short(s.len(), at, 9) {
             return ParsedHeader::Refused(9);
         }
@@ -102,6 +107,7 @@ pub fn read_header(s: &[u8], at: usize) -> ParsedHeader
     })
 }
 
+// The bytes of a coordinate.
 pub fn stride_of(z: bool, m: bool) -> usize
     ensures { λ r. ⌜ r ≡ strideOf z m ⌝ }
 {
@@ -149,7 +155,7 @@ fn count_line(s: &[u8], h: WkbHeader, at: usize) -> Counts
 }
 
 // A count of rings, and as many rings.
-pub fn count_rings(s: &[u8], h: WkbHeader, at: usize) -> Counts
+fn count_rings(s: &[u8], h: WkbHeader, at: usize) -> Counts
     ensures { λ r. ⌜ r ≡ runCounts (ringsAtRuns h (now (s .entry)) at) ⌝ }
 {
     if is_short(s.len(), at, 4) {
@@ -238,4 +244,11 @@ pub fn count_geometry(s: &[u8], at: usize, levels: usize) -> Counts
             }
         }
     }
+}
+
+// The geometry at a position, as the top: its numbers of coordinates and runs, and its end.
+pub fn count(s: &[u8], at: usize) -> Counts
+    ensures { λ r. ⌜ r ≡ countsOf (walkOf allLevels (now (s .entry)) at) ⌝ }
+{
+    count_geometry(s, at, ALL_LEVELS)
 }

@@ -1,21 +1,20 @@
-// The square root of an f64, rounded once, from its bits; and minimum, maximum, clamp and size.
+// The square root of an f64, rounded once, from its bits; minimum, maximum, clamp, absolute value; and bit patterns.
 ghost use mathlib.Core.Path.{_≡_};
-ghost use mathlib.Core.Bool.{true};
 ghost use Prim.Native.Nat.{ℕ, _+_, _*_, _^_, _≤_, _<_};
-ghost use Rattle.ieee754.specs.Sub.{absoluteOf};
-ghost use Rattle.ieee754.specs.Helpers.{minimumOf, maximumOf, clampOf};
-ghost use Rattle.ieee754.specs.Root.{Whole, Finite, Scaled, size, rootBits, rootOf};
+ghost use lib.Ieee.{binary64, ofBits, toBits};
+ghost use Rattle.ieee754.specs.MinMax.{minimumOf, maximumOf, clampOf, absoluteOf};
+ghost use Rattle.ieee754.specs.Root.{RootDigits, isIntegerRoot, trialRemainder, PositiveFinite, Normalized, unitsOfPattern, rootPattern, rootOf};
 
-// A whole root and what is left over.
-pub struct Split {
-    pub q: u64,
-    pub rest: u64,
+// A whole root and its remainder.
+struct IntegerRoot {
+    digits: u64,
+    remainder: u64,
 }
 
-// The whole root of m * 2^52, digit by digit, and the rest.
-pub fn root_digits(m: u64) -> Split
+// The whole root of m * 2^52, digit by digit, and the remainder.
+fn root_digits(m: u64) -> IntegerRoot
     requires { ⌜ m < 2 ^ 54 ⌝ }
-    ensures { λ r. ⌜ Whole m (r .q) (r .rest) ⌝ }
+    ensures { λ r. ⌜ RootDigits m (r .digits) (r .remainder) ⌝ }
 {
     let mut q = 0u64;
     let mut rest = 0u64;
@@ -33,19 +32,22 @@ pub fn root_digits(m: u64) -> Split
         }
         i += 1;
     }
-    Split { q, rest }
+    IntegerRoot {
+        digits: q,
+        remainder: rest,
+    }
 }
 
-// A trial of q as the whole root: whether it is, and the rest.
-pub struct Trial {
-    pub ok: bool,
-    pub rest: u64,
+// Whether a number is the whole root, and the remainder if so, else 0.
+struct Trial {
+    holds: bool,
+    remainder: u64,
 }
 
-// Tries q, exactly: the square by halves of 27 binary digits.
-pub fn tried(m: u64, q: u64) -> Trial
+// Tries q as the whole root of m * 2^52, exactly: the square by halves of 27 binary digits.
+fn try_root(m: u64, q: u64) -> Trial
     requires { ⌜ (m < 2 ^ 54) × (q < 2 ^ 53) ⌝ }
-    ensures { λ r. ⌜ (r .ok ≡ true → Whole m q (r .rest)) ⌝ }
+    ensures { λ r. ⌜ (r .holds ≡ isIntegerRoot m q) × (r .remainder ≡ trialRemainder m q) ⌝ }
 {
     let a = q / 134217728;
     let b = q % 134217728;
@@ -62,16 +64,23 @@ pub fn tried(m: u64, q: u64) -> Trial
             if lo <= v {
                 let rest = v - lo;
                 if rest <= 2 * q {
-                    return Trial { ok: true, rest };
+                    return Trial {
+                        holds: true,
+                        remainder: rest,
+                    };
                 }
             }
         }
     }
-    Trial { ok: false, rest: 0 }
+    Trial {
+        holds: false,
+        remainder: 0,
+    }
 }
 
-// A guess at the whole root of m * 2^52, by Newton's method on floats. Nothing is promised of it but its digits.
-pub fn guess(m: u64) -> u64
+// A guess at the whole root of m * 2^52, by Newton's method on floats. It is a hint only: `try_root` checks it exactly,
+// and where it fails `root_digits` answers. So nothing is promised of it but its range.
+fn guess_root(m: u64) -> u64
     requires { ⌜ m < 2 ^ 54 ⌝ }
     ensures { λ r. ⌜ (2 ^ 52 ≤ r) × (r < 2 ^ 53) ⌝ }
 {
@@ -94,34 +103,40 @@ pub fn guess(m: u64) -> u64
     4503599627370496
 }
 
-// The whole root and the rest: a guess that an exact trial confirms, else digit by digit.
-pub fn whole_root(m: u64) -> Split
+// The whole root of m * 2^52 and the remainder: the guess or one less, if a trial says so, else digit by digit.
+fn integer_root(m: u64) -> IntegerRoot
     requires { ⌜ m < 2 ^ 54 ⌝ }
-    ensures { λ r. ⌜ Whole m (r .q) (r .rest) ⌝ }
+    ensures { λ r. ⌜ RootDigits m (r .digits) (r .remainder) ⌝ }
 {
-    let q = guess(m);
-    let t = tried(m, q);
-    if t.ok {
-        return Split { q, rest: t.rest };
+    let q = guess_root(m);
+    let t = try_root(m, q);
+    if t.holds {
+        return IntegerRoot {
+            digits: q,
+            remainder: t.remainder,
+        };
     }
     let p = q - 1;
-    let u = tried(m, p);
-    if u.ok {
-        return Split { q: p, rest: u.rest };
+    let u = try_root(m, p);
+    if u.holds {
+        return IntegerRoot {
+            digits: p,
+            remainder: u.remainder,
+        };
     }
     root_digits(m)
 }
 
-// A size as a number of 53 digits times a power of two.
-pub struct Scale {
-    pub m: u64,
-    pub w: u64,
+// A significand of 53 binary digits and an exponent.
+struct Significand {
+    digits: u64,
+    exponent: u64,
 }
 
-// The float with the bits b is m * 2^(w - 52) units of 2^-1074, m of 53 digits.
-pub fn scaled(b: u64) -> Scale
-    requires { ⌜ Finite b ⌝ }
-    ensures { λ r. ⌜ Scaled b (r .m) (r .w) ⌝ }
+// The number of pattern b is digits * 2^(exponent - 52) units of 2^-1074. A subnormal number is shifted left.
+fn normalized(b: u64) -> Significand
+    requires { ⌜ PositiveFinite b ⌝ }
+    ensures { λ r. ⌜ Normalized b (r .digits) (r .exponent) ⌝ }
 {
     let x = b / 4503599627370496;
     let mut m = b % 4503599627370496;
@@ -131,30 +146,33 @@ pub fn scaled(b: u64) -> Scale
             m = m * 2;
             w -= 1;
         }
-        Scale { m, w }
+        Significand {
+            digits: m,
+            exponent: w,
+        }
     } else {
-        Scale {
-            m: m + 4503599627370496,
-            w: x + 51,
+        Significand {
+            digits: m + 4503599627370496,
+            exponent: x + 51,
         }
     }
 }
 
-// The bits of the root of the float with the bits b.
-pub fn root_bits(b: u64) -> u64
-    requires { ⌜ Finite b ⌝ }
-    ensures { λ r. ⌜ (r ≡ rootBits (size b)) × (r < 9218868437227405312) ⌝ }
+// The pattern of the root of the number of pattern b: up exactly if the remainder is above the whole root.
+fn root_pattern(b: u64) -> u64
+    requires { ⌜ PositiveFinite b ⌝ }
+    ensures { λ r. ⌜ (r ≡ rootPattern (unitsOfPattern b)) × (r < 9218868437227405312) ⌝ }
 {
-    let n = scaled(b);
-    let g = n.w + 1022;
+    let n = normalized(b);
+    let g = n.exponent + 1022;
     let c = g / 2 - 26;
-    let mut m = n.m;
+    let mut m = n.digits;
     if g % 2 == 1 {
         m = m * 2;
     }
-    let d = whole_root(m);
-    let q = d.q;
-    let rest = d.rest;
+    let d = integer_root(m);
+    let q = d.digits;
+    let rest = d.remainder;
     if q < rest {
         c * 4503599627370496 + (q + 1)
     } else {
@@ -162,6 +180,7 @@ pub fn root_bits(b: u64) -> u64
     }
 }
 
+// The square root, rounded once to the nearest.
 pub fn root(s: f64) -> f64
     ensures { λ r. ⌜ r ≡ rootOf s ⌝ }
 {
@@ -178,10 +197,10 @@ pub fn root(s: f64) -> f64
         return s;
     }
     let b = f64::to_bits(s);
-    f64::from_bits(root_bits(b))
+    f64::from_bits(root_pattern(b))
 }
 
-// The smaller of two: a NaN is dropped, and of equal operands the first is given.
+// The smaller of two. A NaN operand is dropped, and of equal operands the first is given.
 pub fn minimum(a: f64, b: f64) -> f64
     ensures { λ r. ⌜ r ≡ minimumOf a b ⌝ }
 {
@@ -192,16 +211,16 @@ pub fn minimum(a: f64, b: f64) -> f64
 }
 
 // The larger of two, by the same rule.
-pub fn maximum(a: f64, b: f64) -> f64
-    ensures { λ r. ⌜ r ≡ maximumOf a b ⌝ }
+pub fn maximum(x: f64, y: f64) -> f64
+    ensures { λ r. ⌜ r ≡ maximumOf x y ⌝ }
 {
-    if a != a {
-        return b;
+    if x != x {
+        return y;
     }
-    if a < b { b } else { a }
+    if x < y { y } else { x }
 }
 
-// x with its sign cleared.
+// x with its sign bit cleared.
 pub fn absolute(x: f64) -> f64
     ensures { λ r. ⌜ r ≡ absoluteOf x ⌝ }
 {
@@ -219,4 +238,25 @@ pub fn clamp(x: f64) -> f64
         return 0.0;
     }
     if x > 1.0 { 1.0 } else { x }
+}
+
+// The number of a bit pattern; a NaN for each NaN's pattern, at which from_bits is undefined.
+pub fn from_pattern(bits: u64) -> f64
+    ensures { λ r. ⌜ r ≡ ofBits binary64 bits ⌝ }
+{
+    if 0x7ff0_0000_0000_0000 < bits % 0x8000_0000_0000_0000 {
+        0.0 / 0.0
+    } else {
+        f64::from_bits(bits)
+    }
+}
+
+// The bit pattern of a number; 7FF8000000000000 hexadecimal for a NaN, at which to_bits is undefined.
+pub fn to_pattern(x: f64) -> u64
+    ensures { λ r. ⌜ r ≡ toBits binary64 x ⌝ }
+{
+    if x != x {
+        return 0x7ff8_0000_0000_0000;
+    }
+    f64::to_bits(x)
 }

@@ -1,8 +1,8 @@
--- What the definitions of a run and of a line come to where nothing is refused.
-use mathlib.Core.Path.{_≡_, refl, sym, ap, subst, _∙_}
+-- What the definitions of a run and of a line come to where nothing is refused. Assumes nothing.
+use mathlib.Core.Path.{_≡_, refl, ap, _∙_}
 use mathlib.Core.Bool.{Bool, true, false, cond}
-use mathlib.Core.List.{List, [], _∷_, _++_, append-nil}
-use Prim.Native.Nat.{ℕ, zero, suc, _+_, _-_, _*_, _<_, _≤_}
+use mathlib.Core.List.{List, [], _∷_, append-nil}
+use Prim.Native.Nat.{ℕ, zero, suc, _+_, _-_, _*_, _≤_}
 use native.Mathlib.Nat.{add-zero, zero-mul}
 use native.Mathlib.Numerals.{add-one}
 use native.Mathlib.Omega.{arith}
@@ -10,17 +10,17 @@ use lib.Dec.{ltb}
 use lib.ListN.{length, set}
 use lib.Seq.{sets}
 use lib.Ieee.{Float}
-use borrow.Author.Tests.{le-ltb, ltb-false}
+use borrow.Author.Tests.{ltb-false}
 use Rattle.fields.specs.Fields.{u32At}
-use Rattle.coords.specs.Walk.{ok, refused, stride, coordinatesFrom}
-use Rattle.coords.specs.Runs.{Run, run, nonEmptyRun, coordinateCount}
-use Rattle.coords.specs.ReaderRuns.{ParsedRuns, coordinatesRuns, lineRuns}
+use Rattle.coords.specs.Walk.{Coordinate, ok, refused, stride, coordinatesFrom}
+use Rattle.coords.specs.Parts.{Run, run, nonEmptyRun, coordinateCount}
+use Rattle.coords.specs.Inner.{ParsedRuns, coordinatesRuns, lineRuns}
 use Rattle.coords.proofs.Runs.{coordinates-runs, line-runs}
 use Rattle.coords.specs.declared.WkbHeader.{WkbHeader}
 use Rattle.coords.proofs.Laws.{length-coordinates}
 use Rattle.workspace.specs.declared.Progress.{Progress}
 use Rattle.workspace.specs.Workspace.{floatsPerCoordinate, numbersPerRun, runNumbers, coordinatesFloats, floatsOf, tableOf}
-use Rattle.workspace.specs.Fill.{floatsAfter, tableAfter, progressAfter, Ready, Filled}
+use Rattle.workspace.specs.Inner.{floatsAfter, tableAfter, progressAfter, Ready, Filled}
 
 -- a test that refuses by 9 did not
 pub passed : (b : Bool) (w : ParsedRuns) (p : Progress) (lf lt : ℕ) → Ready (cond b (refused 9) w) p lf lt → b ≡ false
@@ -42,7 +42,7 @@ run-some h s zero at f = absurd (f refl)
 run-some h s (suc n) at f = refl
 
 run-one : (h : WkbHeader) (s : List ℕ) (n at : ℕ) (p : Progress) (lf lt : ℕ) → (n ≡ 0 → ⊥) → Ready (coordinatesRuns h s n at) p lf lt → coordinatesRuns h s n at ≡ ok (run (h .kind) (coordinatesFrom h s n at) ∷ []) (at + n * stride h)
-run-one h s n at p lf lt f r = run-whole h s n at p lf lt r ∙ ap (λ (rs : List Run). ok rs (at + n * stride h)) (run-some h s n at f)
+run-one h s n at p lf lt f r = run-whole h s n at p lf lt r ∙ ap (λ (rs : List (Run Coordinate)). ok rs (at + n * stride h)) (run-some h s n at f)
 
 pub run-room : (h : WkbHeader) (s : List ℕ) (n at : ℕ) (p : Progress) (lf lt : ℕ) → (n ≡ 0 → ⊥) → Ready (coordinatesRuns h s n at) p lf lt → (floatsPerCoordinate * (p .coords + n) ≤ lf) × (numbersPerRun * (p .runs + 1) ≤ lt)
 unfolding Ready coordinateCount

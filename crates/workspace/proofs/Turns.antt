@@ -1,9 +1,9 @@
--- A loop that writes the things of a list, turn by turn, for any reader f of one thing.
-use mathlib.Core.Path.{_≡_, refl, sym, ap, subst, _∙_}
-use mathlib.Core.Bool.{Bool, true, false, cond}
-use mathlib.Core.List.{List, [], _∷_, _++_, append-assoc}
+-- A loop that writes the things of a list, turn by turn, for any reader f of one thing. Assumes nothing.
+use mathlib.Core.Path.{_≡_, refl, sym, ap, _∙_}
+use mathlib.Core.Bool.{Bool}
+use mathlib.Core.List.{List, [], _++_}
 use Prim.Native.Nat.{ℕ, zero, suc, _+_, _-_, _*_, _<_, _≤_}
-use native.Mathlib.Nat.{add-zero, zero-add, add-assoc}
+use native.Mathlib.Nat.{add-zero, add-assoc}
 use native.Mathlib.Numerals.{sub-one}
 use native.Mathlib.Omega.{arith}
 use lib.Dec.{ltb}
@@ -11,17 +11,18 @@ use lib.ListN.{length, length-append}
 use lib.Seq.{sets}
 use lib.Ieee.{Float}
 use borrow.Author.Tests.{ltb-false}
+use Rattle.fields.proofs.Stores.{sets-append}
 use Rattle.fields.specs.Fields.{u32At}
 use Rattle.coords.specs.Walk.{Coordinate, ok, refused, consParsed, andThen, times, listAt}
-use Rattle.coords.specs.Runs.{Run, run, coordinateCount}
-use Rattle.coords.specs.ReaderRuns.{ParsedRuns, lineRuns, ringsAtRuns, membersAtRuns, walkRuns}
+use Rattle.coords.specs.Parts.{Run, coordinateCount}
+use Rattle.coords.specs.Inner.{ParsedRuns, lineRuns, ringsAtRuns, membersAtRuns, walkRuns}
 use Rattle.coords.specs.declared.WkbHeader.{WkbHeader}
 use Rattle.coords.proofs.Runs.{rings-runs, members-runs}
 use Rattle.coords.proofs.Loops.{coords-append}
 use Rattle.workspace.specs.declared.Progress.{Progress}
-use Rattle.workspace.specs.Workspace.{floatsPerCoordinate, numbersPerRun, coordinateFloats, runNumbers, coordinatesFloats, floatsOf, tableOf}
-use Rattle.workspace.specs.Fill.{floatsAfter, tableAfter, progressAfter, Ready, Filled}
-use Rattle.workspace.proofs.Laws.{sets-append, length-coordinateFloats}
+use Rattle.workspace.specs.Workspace.{floatsPerCoordinate, numbersPerRun, floatsOf, tableOf}
+use Rattle.workspace.specs.Inner.{floatsAfter, tableAfter, progressAfter, Ready, Filled}
+use Rattle.workspace.proofs.Contents.{length-floats, floats-append, length-table, table-append}
 use Rattle.workspace.proofs.Runs.{passed}
 
 -- what is left to write after q comes to what was to be written after p
@@ -34,43 +35,18 @@ pub record Turn (all rest : ParsedRuns) (p q : Progress) (fs : List Float) (ts :
 pub turn-none : (w : ParsedRuns) (p : Progress) (fs : List Float) (ts : List ℕ) (lf lt : ℕ) → Ready w p lf lt → Turn w w p p fs ts fs ts lf lt
 turn-none w p fs ts lf lt r = record { ready = r; progress = refl; ordinates = refl; rows = refl }
 
-length-coordinatesFloats : (cs : List Coordinate) → length (coordinatesFloats cs) ≡ floatsPerCoordinate * length cs
-unfolding coordinatesFloats
-length-coordinatesFloats [] = refl
-length-coordinatesFloats (c ∷ cs) = length-append (coordinateFloats c) (coordinatesFloats cs) ∙ omega (arith, length-coordinateFloats c, length-coordinatesFloats cs)
-
-pub length-floats : (rs : List Run) → length (floatsOf rs) ≡ floatsPerCoordinate * coordinateCount rs
-unfolding floatsOf coordinateCount
-length-floats [] = refl
-length-floats (run k vs ∷ rs) = length-append (coordinatesFloats vs) (floatsOf rs) ∙ omega (arith, length-coordinatesFloats vs, length-floats rs)
-
-floats-append : (rs qs : List Run) → floatsOf (rs ++ qs) ≡ floatsOf rs ++ floatsOf qs
-unfolding floatsOf
-floats-append [] qs = refl
-floats-append (run k vs ∷ rs) qs = ap (λ (l : List Float). coordinatesFloats vs ++ l) (floats-append rs qs) ∙ sym (append-assoc (coordinatesFloats vs) (floatsOf rs) (floatsOf qs))
-
-pub length-table : (rs : List Run) → length (tableOf rs) ≡ numbersPerRun * length rs
-unfolding tableOf runNumbers
-length-table [] = refl
-length-table (run k vs ∷ rs) = omega (arith, length-table rs)
-
-table-append : (rs qs : List Run) → tableOf (rs ++ qs) ≡ tableOf rs ++ tableOf qs
-unfolding tableOf runNumbers
-table-append [] qs = refl
-table-append (run k vs ∷ rs) qs = ap (λ (l : List ℕ). runNumbers k vs ++ l) (table-append rs qs)
-
-floats-on : (rs qs : List Run) (l : List Float) (n : ℕ) → sets l (floatsPerCoordinate * n) (floatsOf (rs ++ qs)) ≡ sets (sets l (floatsPerCoordinate * n) (floatsOf rs)) (floatsPerCoordinate * (n + coordinateCount rs)) (floatsOf qs)
+floats-on : (rs qs : List (Run Coordinate)) (l : List Float) (n : ℕ) → sets l (floatsPerCoordinate * n) (floatsOf (rs ++ qs)) ≡ sets (sets l (floatsPerCoordinate * n) (floatsOf rs)) (floatsPerCoordinate * (n + coordinateCount rs)) (floatsOf qs)
 floats-on rs qs l n =
     let e : floatsPerCoordinate * n + length (floatsOf rs) ≡ floatsPerCoordinate * (n + coordinateCount rs) = omega (arith, length-floats rs) in
     ap (λ (x : List Float). sets l (floatsPerCoordinate * n) x) (floats-append rs qs) ∙ (sets-append (floatsOf rs) (floatsOf qs) l (floatsPerCoordinate * n) ∙ ap (λ (k : ℕ). sets (sets l (floatsPerCoordinate * n) (floatsOf rs)) k (floatsOf qs)) e)
 
-table-on : (rs qs : List Run) (l : List ℕ) (n : ℕ) → sets l (numbersPerRun * n) (tableOf (rs ++ qs)) ≡ sets (sets l (numbersPerRun * n) (tableOf rs)) (numbersPerRun * (n + length rs)) (tableOf qs)
+table-on : (rs qs : List (Run Coordinate)) (l : List ℕ) (n : ℕ) → sets l (numbersPerRun * n) (tableOf (rs ++ qs)) ≡ sets (sets l (numbersPerRun * n) (tableOf rs)) (numbersPerRun * (n + length rs)) (tableOf qs)
 table-on rs qs l n =
     let e : numbersPerRun * n + length (tableOf rs) ≡ numbersPerRun * (n + length rs) = omega (arith, length-table rs) in
     ap (λ (x : List ℕ). sets l (numbersPerRun * n) x) (table-append rs qs) ∙ (sets-append (tableOf rs) (tableOf qs) l (numbersPerRun * n) ∙ ap (λ (k : ℕ). sets (sets l (numbersPerRun * n) (tableOf rs)) k (tableOf qs)) e)
 
 -- rs is written, and w is what follows it
-turn-prepend : (rs : List Run) (w : ParsedRuns) (p : Progress) (e : ℕ) (fs : List Float) (ts : List ℕ) (lf lt : ℕ) → Ready (consParsed _++_ rs w) p lf lt → Turn (consParsed _++_ rs w) w p (record { coords = p .coords + coordinateCount rs; runs = p .runs + length rs; next = e }) fs ts (sets fs (floatsPerCoordinate * p .coords) (floatsOf rs)) (sets ts (numbersPerRun * p .runs) (tableOf rs)) lf lt
+turn-prepend : (rs : List (Run Coordinate)) (w : ParsedRuns) (p : Progress) (e : ℕ) (fs : List Float) (ts : List ℕ) (lf lt : ℕ) → Ready (consParsed _++_ rs w) p lf lt → Turn (consParsed _++_ rs w) w p (record { coords = p .coords + coordinateCount rs; runs = p .runs + length rs; next = e }) fs ts (sets fs (floatsPerCoordinate * p .coords) (floatsOf rs)) (sets ts (numbersPerRun * p .runs) (tableOf rs)) lf lt
 unfolding Ready progressAfter floatsAfter tableAfter
 turn-prepend rs (refused k) p e fs ts lf lt r = absurd r
 turn-prepend rs (ok qs e′) p e fs ts lf lt r =

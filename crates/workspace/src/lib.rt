@@ -1,5 +1,4 @@
 // The filling pass of the walk: ordinates and runs into lent memory, once the checking pass has refused nothing.
-use coords::Counts;
 use coords::ParsedHeader;
 use coords::WkbHeader;
 use fields::f64_at;
@@ -9,14 +8,20 @@ ghost use Prim.Native.Nat.{_+_, _*_, _≤_};
 ghost use lib.ListN.{length};
 ghost use lib.Seq.{sets};
 ghost use lib.Ieee.{binary64, ofBits};
-ghost use Rattle.coords.specs.Walk.{stride, strideOf, ordinateIf, coordinateAt, coordinatesFrom, walkOf};
-ghost use Rattle.coords.specs.ReaderRuns.{coordinatesRuns, lineRuns, ringsAtRuns, membersAtRuns, walkRuns};
-ghost use Rattle.workspace.specs.Workspace.{floatsPerCoordinate, coordinateFloats, coordinatesFloats};
-ghost use Rattle.workspace.specs.Fill.{Ready, Filled};
-ghost use Rattle.workspace.specs.Outcome.{ReadOutcome};
+ghost use Rattle.coords.specs.Walk.{stride, strideOf, ordinateIf, coordinateAt, coordinatesFrom, allLevels, walkOf};
+ghost use Rattle.coords.specs.Parts.{walkedRuns};
+ghost use Rattle.coords.specs.Inner.{coordinatesRuns, lineRuns, ringsAtRuns, membersAtRuns, walkRuns};
+ghost use Rattle.workspace.specs.Workspace.{floatsPerCoordinate, coordinateFloats, coordinatesFloats, tooSmallFor, Room, Written};
+ghost use Rattle.workspace.specs.Inner.{Ready, Filled};
+
+// The floats of a coordinate.
+pub const FLOATS_PER_COORDINATE: usize = 3;
+
+// The numbers of a run.
+pub const NUMBERS_PER_RUN: usize = 2;
 
 // Coordinates and runs that are written, and the next position of the walk.
-pub struct Progress {
+struct Progress {
     pub coords: usize,
     pub runs: usize,
     pub next: usize,
@@ -36,7 +41,7 @@ fn put_coordinate(s: &[u8], h: WkbHeader, at: usize, floats: &mut [f64], i: usiz
     requires { ⌜ floatsPerCoordinate * (i + 1) ≤ length (now floats) ⌝ }
     ensures { λ _. ⌜ now (floats .exit) ≡ sets (now (floats .entry)) (floatsPerCoordinate * i) (coordinateFloats (coordinateAt h (now (s .entry)) at)) ⌝ }
 {
-    let k = 3 * i;
+    let k = FLOATS_PER_COORDINATE * i;
     let x = f64_at(s, at, h.little);
     let y = f64_at(s, at + 8, h.little);
     let z = z_at(s, h.z, h.m, h.little, at);
@@ -88,7 +93,7 @@ fn fill_run(
     }
     let total = count * coords::stride_of(h.z, h.m);
     put_coordinates(s, h, count, at, floats, coords);
-    let k = 2 * runs;
+    let k = NUMBERS_PER_RUN * runs;
     table[k] = h.kind;
     table[k + 1] = n;
     Progress {
@@ -165,7 +170,7 @@ fn fill_members(
 }
 
 // The geometry at the next position, with so many levels left.
-pub fn fill_geometry(
+fn fill_geometry(
     s: &[u8],
     p: Progress,
     levels: usize,
@@ -199,26 +204,25 @@ pub fn fill_geometry(
     }
 }
 
-// The geometry at a position into lent memory: both passes.
-pub fn read_at(s: &[u8], at: usize, levels: usize, floats: &mut [f64], table: &mut [u32]) -> Counts
-    ensures { λ r. ⌜ ReadOutcome (walkOf levels (now (s .entry)) at) (now (floats .entry)) (now (table .entry)) (now (floats .exit)) (now (table .exit)) r ⌝ }
+// Whether lent memory of these lengths is too small for so many coordinates and runs.
+pub fn too_small(coords: usize, runs: usize, floats: usize, numbers: usize) -> bool
+    ensures { λ r. ⌜ r ≡ tooSmallFor coords runs floats numbers ⌝ }
 {
-    match coords::count_geometry(s, at, levels) {
-        Counts::Refused(k) => Counts::Refused(k),
-        Counts::Accepted { coords, runs, end } => {
-            if floats.len() / 3 < coords {
-                return Counts::Refused(15);
-            }
-            if table.len() / 2 < runs {
-                return Counts::Refused(15);
-            }
-            let start = Progress {
-                coords: 0,
-                runs: 0,
-                next: at,
-            };
-            let last = fill_geometry(s, start, levels, floats, table);
-            Counts::Accepted { coords, runs, end }
-        }
+    if floats / FLOATS_PER_COORDINATE < coords {
+        return true;
     }
+    numbers / NUMBERS_PER_RUN < runs
+}
+
+// The geometry at a position, as the top, into lent memory that has room for it.
+pub fn fill(s: &[u8], at: usize, floats: &mut [f64], table: &mut [u32])
+    requires { ⌜ Room (walkOf allLevels (now s) at) (length (now floats)) (length (now table)) ⌝ }
+    ensures { λ _. ⌜ Written (walkedRuns (walkOf allLevels (now (s .entry)) at)) (now (floats .entry)) (now (table .entry)) (now (floats .exit)) (now (table .exit)) ⌝ }
+{
+    let start = Progress {
+        coords: 0,
+        runs: 0,
+        next: at,
+    };
+    fill_geometry(s, start, coords::ALL_LEVELS, floats, table);
 }

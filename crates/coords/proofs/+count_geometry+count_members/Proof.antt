@@ -1,10 +1,11 @@
+-- `coords::count_geometry` and `coords::count_members` meet their contracts. Assumes nothing.
 use Rattle.coords.proofs.Classes.{class-point, class-line, class-polygon, class-collection, class-none, class-above, geometry-refused, geometry-is}
 use Rattle.coords.proofs.Inside.{inside-walk, inside-of}
 use Rattle.coords.proofs.Loops.{plus, plus-zero, members-are, turn-refused, turn-whole, turns-end}
 use Rattle.coords.proofs.Laws.{room}
 use Rattle.coords.specs.Counts.{runCounts}
 use Rattle.coords.specs.Walk.{mapParsed, times, listAt, walkOf, pointClass, lineClass, polygonClass, collectionClass, unknownClass}
-use Rattle.coords.specs.ReaderRuns.{walkRuns}
+use Rattle.coords.specs.Inner.{walkRuns}
 use Rattle.coords.proofs.Runs.{contentRunsAt}
 use mathlib.Core.List.{[], _++_}
 use lib.ListN.{length}
@@ -12,7 +13,7 @@ use borrow.Author.Needs.{needs}
 use native.Mathlib.Omega.{arith}
 use Prim.Native.Nat.{ℕ, _+_, _*_, _≤_, _-_, _<_}
 use mathlib.Core.Logic.{_⊎_, inl, inr, ⊎-elim}
-use mathlib.Core.Path.{_≡_, refl, sym, _∙_, ap}
+use mathlib.Core.Path.{_≡_, sym, _∙_, ap}
 use borrow.Fn.Kinds.{In}
 use borrow.Fn.PlainCycle.{Measures, is, falls, and}
 use Rattle.coords.proofs.count_geometry.Reads as count-geometry
@@ -64,7 +65,6 @@ count-members-below t =
     (falls 1 count-members-kinds.ps _<_ μ-count-members t)
     count-members.Pre
 
--- src/lib.rt:189:9
 count-geometry-returns : (t : ℕ) → count-geometry-lts.Need-returns (
   read-header-reads.Asked,
   read-header-reads.Learnt,
@@ -80,7 +80,6 @@ count-geometry-returns : (t : ℕ) → count-geometry-lts.Need-returns (
 unfolding walkOf runCounts mapParsed
 count-geometry-returns t c = rw (c .if1 .taken)
 
--- src/lib.rt:191:11
 count-geometry-read-header-requires : (t : ℕ) → count-geometry-lts.Need-read-header-requires (
   read-header-reads.Asked,
   read-header-reads.Learnt,
@@ -95,7 +94,6 @@ count-geometry-read-header-requires : (t : ℕ) → count-geometry-lts.Need-read
 ) (count-geometry-at t) count-geometry.Post
 count-geometry-read-header-requires t c κs = search needs
 
--- src/lib.rt:192:26
 count-geometry-enum-known-k : (t : ℕ) → count-geometry-lts.Need-enum-known-k (
   read-header-reads.Asked,
   read-header-reads.Learnt,
@@ -110,7 +108,6 @@ count-geometry-enum-known-k : (t : ℕ) → count-geometry-lts.Need-enum-known-k
 ) (count-geometry-at t) count-geometry.Post
 count-geometry-enum-known-k t c = search needs
 
--- src/lib.rt:193:23
 count-geometry-enum-known-h : (t : ℕ) → count-geometry-lts.Need-enum-known-h (
   read-header-reads.Asked,
   read-header-reads.Learnt,
@@ -125,7 +122,6 @@ count-geometry-enum-known-h : (t : ℕ) → count-geometry-lts.Need-enum-known-h
 ) (count-geometry-at t) count-geometry.Post
 count-geometry-enum-known-h t c = search needs
 
--- src/lib.rt:196:22
 count-geometry-count-run-requires : (t : ℕ) → count-geometry-lts.Need-count-run-requires (
   read-header-reads.Asked,
   read-header-reads.Learnt,
@@ -140,7 +136,6 @@ count-geometry-count-run-requires : (t : ℕ) → count-geometry-lts.Need-count-
 ) (count-geometry-at t) count-geometry.Post
 count-geometry-count-run-requires t c κs = search needs
 
--- src/lib.rt:197:22
 count-geometry-count-line-requires : (t : ℕ) → count-geometry-lts.Need-count-line-requires (
   read-header-reads.Asked,
   read-header-reads.Learnt,
@@ -155,7 +150,6 @@ count-geometry-count-line-requires : (t : ℕ) → count-geometry-lts.Need-count
 ) (count-geometry-at t) count-geometry.Post
 count-geometry-count-line-requires t c κs = search needs
 
--- src/lib.rt:198:27
 count-geometry-count-rings-requires : (t : ℕ) → count-geometry-lts.Need-count-rings-requires (
   read-header-reads.Asked,
   read-header-reads.Learnt,
@@ -170,7 +164,6 @@ count-geometry-count-rings-requires : (t : ℕ) → count-geometry-lts.Need-coun
 ) (count-geometry-at t) count-geometry.Post
 count-geometry-count-rings-requires t c κs = search needs
 
--- src/lib.rt:199:71
 count-geometry-sub-count-members : (t : ℕ) → count-geometry-lts.Need-sub-count-members (
   read-header-reads.Asked,
   read-header-reads.Learnt,
@@ -185,7 +178,6 @@ count-geometry-sub-count-members : (t : ℕ) → count-geometry-lts.Need-sub-cou
 ) (count-geometry-at t) count-geometry.Post
 count-geometry-sub-count-members t c = omega (arith, (c .before .before .before .before .before .before .before .if1 .left))
 
--- src/lib.rt:199:36
 count-geometry-count-members-requires : (t : ℕ) → count-geometry-lts.Need-count-members-requires (
   read-header-reads.Asked,
   read-header-reads.Learnt,
@@ -200,7 +192,6 @@ count-geometry-count-members-requires : (t : ℕ) → count-geometry-lts.Need-co
 ) (count-geometry-at t) count-geometry.Post
 count-geometry-count-members-requires t c κs = (omega (arith, (c .before .before .before .before .before .before .before .before .before .pre) .0, (c .before .before .before .before .before .before .before .if1 .left)), tt)
 
--- src/lib.rt:185:1
 count-geometry-returns-2 : (t : ℕ) → count-geometry-lts.Need-returns-2 (
   read-header-reads.Asked,
   read-header-reads.Learnt,
@@ -216,7 +207,6 @@ count-geometry-returns-2 : (t : ℕ) → count-geometry-lts.Need-returns-2 (
 unfolding runCounts
 count-geometry-returns-2 t c = sym (ap runCounts (geometry-refused _ _ _ _ _ (c .before .before .before .before .if1 .left) (c .before .before .before .read-header .ensures) ((c .before .k .given) .1)))
 
--- src/lib.rt:185:1
 count-geometry-returns-3 : (t : ℕ) → count-geometry-lts.Need-returns-3 (
   read-header-reads.Asked,
   read-header-reads.Learnt,
@@ -232,7 +222,6 @@ count-geometry-returns-3 : (t : ℕ) → count-geometry-lts.Need-returns-3 (
 unfolding contentRunsAt
 count-geometry-returns-3 t c = (c .count-run .ensures) ∙ sym (ap runCounts (geometry-is (c .before .before .before .before .before .before .before .before .args .levels) (c .before .before .before .before .before .before .before .before .args .s .now) (c .before .before .before .before .before .before .before .before .args .at) ((c .before .before .before .h .given) .0 .0) pointClass _ (c .before .before .before .before .before .before .if1 .left) (c .before .before .before .before .before .read-header .ensures) ((c .before .before .before .h .given) .1) (class-point _ (c .before .match2 .keys1))))
 
--- src/lib.rt:185:1
 count-geometry-returns-4 : (t : ℕ) → count-geometry-lts.Need-returns-4 (
   read-header-reads.Asked,
   read-header-reads.Learnt,
@@ -248,7 +237,6 @@ count-geometry-returns-4 : (t : ℕ) → count-geometry-lts.Need-returns-4 (
 unfolding contentRunsAt
 count-geometry-returns-4 t c = (c .count-line .ensures) ∙ sym (ap runCounts (geometry-is (c .before .before .before .before .before .before .before .before .args .levels) (c .before .before .before .before .before .before .before .before .args .s .now) (c .before .before .before .before .before .before .before .before .args .at) ((c .before .before .before .h .given) .0 .0) lineClass _ (c .before .before .before .before .before .before .if1 .left) (c .before .before .before .before .before .read-header .ensures) ((c .before .before .before .h .given) .1) (class-line _ (c .before .match2 .keys2))))
 
--- src/lib.rt:185:1
 count-geometry-returns-5 : (t : ℕ) → count-geometry-lts.Need-returns-5 (
   read-header-reads.Asked,
   read-header-reads.Learnt,
@@ -264,7 +252,6 @@ count-geometry-returns-5 : (t : ℕ) → count-geometry-lts.Need-returns-5 (
 unfolding contentRunsAt
 count-geometry-returns-5 t c = (c .count-rings .ensures) ∙ sym (ap runCounts (geometry-is (c .before .before .before .before .before .before .before .before .args .levels) (c .before .before .before .before .before .before .before .before .args .s .now) (c .before .before .before .before .before .before .before .before .args .at) ((c .before .before .before .h .given) .0 .0) polygonClass _ (c .before .before .before .before .before .before .if1 .left) (c .before .before .before .before .before .read-header .ensures) ((c .before .before .before .h .given) .1) (class-polygon _ (c .before .match2 .keys3))))
 
--- src/lib.rt:185:1
 count-geometry-returns-6 : (t : ℕ) → count-geometry-lts.Need-returns-6 (
   read-header-reads.Asked,
   read-header-reads.Learnt,
@@ -280,7 +267,6 @@ count-geometry-returns-6 : (t : ℕ) → count-geometry-lts.Need-returns-6 (
 unfolding contentRunsAt
 count-geometry-returns-6 t c = (c .count-members .ensures) ∙ sym (ap runCounts (geometry-is (c .before .before .before .before .before .before .before .before .before .before .args .levels) (c .before .before .before .before .before .before .before .before .before .before .args .s .now) (c .before .before .before .before .before .before .before .before .before .before .args .at) ((c .before .before .before .before .before .h .given) .0 .0) collectionClass _ (c .before .before .before .before .before .before .before .before .if1 .left) (c .before .before .before .before .before .before .before .read-header .ensures) ((c .before .before .before .before .before .h .given) .1) (class-collection _ ((c .before .before .before .match2 .rest) .0 .0 .1) ((c .before .before .before .match2 .rest) .0 .1) ((c .before .before .before .match2 .rest) .1) (c .before .before .if2 .left) (⊎-elim (λ w. inl (w .taken)) (λ w. inr (w .1 .left, w .2 .taken)) (c .before .if3 .came)))))
 
--- src/lib.rt:185:1
 count-geometry-returns-7 : (t : ℕ) → count-geometry-lts.Need-returns-7 (
   read-header-reads.Asked,
   read-header-reads.Learnt,
@@ -296,7 +282,6 @@ count-geometry-returns-7 : (t : ℕ) → count-geometry-lts.Need-returns-7 (
 unfolding contentRunsAt runCounts
 count-geometry-returns-7 t c = sym (ap runCounts (geometry-is (c .before .before .before .before .before .before .before .before .args .levels) (c .before .before .before .before .before .before .before .before .args .s .now) (c .before .before .before .before .before .before .before .before .args .at) ((c .before .before .before .h .given) .0 .0) unknownClass _ (c .before .before .before .before .before .before .if1 .left) (c .before .before .before .before .before .read-header .ensures) ((c .before .before .before .h .given) .1) (class-none _ (c .if2 .taken))))
 
--- src/lib.rt:185:1
 count-geometry-returns-8 : (t : ℕ) → count-geometry-lts.Need-returns-8 (
   read-header-reads.Asked,
   read-header-reads.Learnt,
@@ -312,7 +297,6 @@ count-geometry-returns-8 : (t : ℕ) → count-geometry-lts.Need-returns-8 (
 unfolding contentRunsAt runCounts
 count-geometry-returns-8 t c = sym (ap runCounts (geometry-is (c .before .before .before .before .before .before .before .before .before .before .args .levels) (c .before .before .before .before .before .before .before .before .before .before .args .s .now) (c .before .before .before .before .before .before .before .before .before .before .args .at) ((c .before .before .before .before .before .h .given) .0 .0) unknownClass _ (c .before .before .before .before .before .before .before .before .if1 .left) (c .before .before .before .before .before .before .before .read-header .ensures) ((c .before .before .before .before .before .h .given) .1) (class-above _ (c .before .if3 .left) (omega arith) (omega arith) (omega arith))))
 
--- src/lib.rt:185:1
 count-geometry-returns-9 : (t : ℕ) → count-geometry-lts.Need-returns-9 (
   read-header-reads.Asked,
   read-header-reads.Learnt,
@@ -335,7 +319,6 @@ count-members-Inv-loop s little at levels left₀ coords₀ runs₀ next₀ left
 abbrev count-members-μ-loop : count-members-lts.MeasureT-loop
 count-members-μ-loop s little at levels left₀ coords₀ runs₀ next₀ left coords runs next = left
 
--- src/lib.rt:161:8
 count-members-is-short-requires : (t : ℕ) → count-members-lts.Need-is-short-requires (
   is-short-reads.Asked,
   is-short-reads.Learnt,
@@ -346,7 +329,6 @@ count-members-is-short-requires : (t : ℕ) → count-members-lts.Need-is-short-
 ) (count-members-at t) count-members.Post count-members-Inv-loop count-members-μ-loop
 count-members-is-short-requires t c κs = search needs
 
--- src/lib.rt:162:9
 count-members-returns : (t : ℕ) → count-members-lts.Need-returns (
   is-short-reads.Asked,
   is-short-reads.Learnt,
@@ -358,7 +340,6 @@ count-members-returns : (t : ℕ) → count-members-lts.Need-returns (
 unfolding listAt runCounts mapParsed
 count-members-returns t c = simp (← (c .before .is-short .ensures), (c .if1 .taken))
 
--- src/lib.rt:164:9
 count-members-u32-at-requires : (t : ℕ) → count-members-lts.Need-u32-at-requires (
   is-short-reads.Asked,
   is-short-reads.Learnt,
@@ -369,7 +350,6 @@ count-members-u32-at-requires : (t : ℕ) → count-members-lts.Need-u32-at-requ
 ) (count-members-at t) count-members.Post count-members-Inv-loop count-members-μ-loop
 count-members-u32-at-requires t c κs = room _ _ _ (c .before .is-short .ensures) (c .if1 .left)
 
--- src/lib.rt:167:20
 count-members-add-next : (t : ℕ) → count-members-lts.Need-add-next (
   is-short-reads.Asked,
   is-short-reads.Learnt,
@@ -380,7 +360,6 @@ count-members-add-next : (t : ℕ) → count-members-lts.Need-add-next (
 ) (count-members-at t) count-members.Post count-members-Inv-loop count-members-μ-loop
 count-members-add-next t c = omega (arith, room (c .before .before .is-short .result) (length (c .before .before .before .before .args .s .now)) ((c .before .before .before .before .args .at) + 4) (c .before .before .is-short .ensures) (c .before .if1 .left))
 
--- src/lib.rt:168:5
 count-members-loop-holds : (t : ℕ) → count-members-lts.Need-loop-holds (
   is-short-reads.Asked,
   is-short-reads.Learnt,
@@ -391,7 +370,6 @@ count-members-loop-holds : (t : ℕ) → count-members-lts.Need-loop-holds (
 ) (count-members-at t) count-members.Post count-members-Inv-loop count-members-μ-loop
 count-members-loop-holds t c = (sym (plus-zero _), omega arith, omega arith)
 
--- src/lib.rt:169:15
 count-members-count-geometry-requires : (t : ℕ) → count-members-lts.Need-count-geometry-requires (
   is-short-reads.Asked,
   is-short-reads.Learnt,
@@ -402,7 +380,6 @@ count-members-count-geometry-requires : (t : ℕ) → count-members-lts.Need-cou
 ) (count-members-at t) count-members.Post count-members-Inv-loop count-members-μ-loop
 count-members-count-geometry-requires t c κs = (omega (arith, (c .before .before .before .before .before .before .pre) .0), tt)
 
--- src/lib.rt:170:30
 count-members-enum-known-k : (t : ℕ) → count-members-lts.Need-enum-known-k (
   is-short-reads.Asked,
   is-short-reads.Learnt,
@@ -413,7 +390,6 @@ count-members-enum-known-k : (t : ℕ) → count-members-lts.Need-enum-known-k (
 ) (count-members-at t) count-members.Post count-members-Inv-loop count-members-μ-loop
 count-members-enum-known-k t c = search needs
 
--- src/lib.rt:171:17
 count-members-returns-2 : (t : ℕ) → count-members-lts.Need-returns-2 (
   is-short-reads.Asked,
   is-short-reads.Learnt,
@@ -424,7 +400,6 @@ count-members-returns-2 : (t : ℕ) → count-members-lts.Need-returns-2 (
 ) (count-members-at t) count-members.Post count-members-Inv-loop count-members-μ-loop
 count-members-returns-2 t c = sym (members-are (c .before .before .before .before .before .before .before .before .before .before .args .levels) (c .before .before .before .before .before .before .before .before .before .before .args .little) (c .before .before .before .before .before .before .before .before .before .before .args .s .now) (c .before .before .before .before .before .before .before .before .before .before .args .at) (c .before .before .before .before .before .before .u32-at .result) (c .before .before .before .before .before .before .before .before .is-short .result) (c .before .before .before .before .before .before .before .before .is-short .ensures) (c .before .before .before .before .before .before .before .if1 .left) (c .before .before .before .before .before .before .u32-at .ensures) ∙ turn-refused (walkRuns (c .before .before .before .before .before .before .before .before .before .before .args .levels) (c .before .before .before .before .before .before .before .before .before .before .args .s .now)) _ _ _ _ _ _ _ ((c .before .before .before .before .before .loop .inv) .0) (c .before .before .before .before .loop-test .taken) (c .before .before .before .count-geometry .ensures) ((c .before .k .given) .1))
 
--- src/lib.rt:173:38
 count-members-enum-known-n : (t : ℕ) → count-members-lts.Need-enum-known-n (
   is-short-reads.Asked,
   is-short-reads.Learnt,
@@ -435,7 +410,6 @@ count-members-enum-known-n : (t : ℕ) → count-members-lts.Need-enum-known-n (
 ) (count-members-at t) count-members.Post count-members-Inv-loop count-members-μ-loop
 count-members-enum-known-n t c = search needs
 
--- src/lib.rt:174:17
 count-members-add-coords : (t : ℕ) → count-members-lts.Need-add-coords (
   is-short-reads.Asked,
   is-short-reads.Learnt,
@@ -446,7 +420,6 @@ count-members-add-coords : (t : ℕ) → count-members-lts.Need-add-coords (
 ) (count-members-at t) count-members.Post count-members-Inv-loop count-members-μ-loop
 count-members-add-coords t c = let i : (16 * ((c .before .n .given) .0 .0) + (c .before .before .before .before .before .loop .next) ≤ (c .before .n .given) .0 .1 .1 .0) × ((c .before .n .given) .0 .1 .0 ≤ (c .before .n .given) .0 .0) = inside-of (walkRuns (c .before .before .before .before .before .before .before .before .before .before .args .levels) (c .before .before .before .before .before .before .before .before .before .before .args .s .now)) (inside-walk (c .before .before .before .before .before .before .before .before .before .before .args .levels) (c .before .before .before .before .before .before .before .before .before .before .args .s .now)) (c .before .before .before .before .before .loop .next) _ _ _ _ (c .before .before .before .count-geometry .ensures) ((c .before .n .given) .1) in omega (arith, (c .known-told2 .given))
 
--- src/lib.rt:175:17
 count-members-add-runs : (t : ℕ) → count-members-lts.Need-add-runs (
   is-short-reads.Asked,
   is-short-reads.Learnt,
@@ -457,7 +430,6 @@ count-members-add-runs : (t : ℕ) → count-members-lts.Need-add-runs (
 ) (count-members-at t) count-members.Post count-members-Inv-loop count-members-μ-loop
 count-members-add-runs t c = let i : (16 * ((c .before .n .given) .0 .0) + (c .before .before .before .before .before .loop .next) ≤ (c .before .n .given) .0 .1 .1 .0) × ((c .before .n .given) .0 .1 .0 ≤ (c .before .n .given) .0 .0) = inside-of (walkRuns (c .before .before .before .before .before .before .before .before .before .before .args .levels) (c .before .before .before .before .before .before .before .before .before .before .args .s .now)) (inside-walk (c .before .before .before .before .before .before .before .before .before .before .args .levels) (c .before .before .before .before .before .before .before .before .before .before .args .s .now)) (c .before .before .before .before .before .loop .next) _ _ _ _ (c .before .before .before .count-geometry .ensures) ((c .before .n .given) .1) in omega (arith, (c .known-told2 .given))
 
--- src/lib.rt:179:9
 count-members-sub-left : (t : ℕ) → count-members-lts.Need-sub-left (
   is-short-reads.Asked,
   is-short-reads.Learnt,
@@ -468,7 +440,6 @@ count-members-sub-left : (t : ℕ) → count-members-lts.Need-sub-left (
 ) (count-members-at t) count-members.Post count-members-Inv-loop count-members-μ-loop
 count-members-sub-left t c = omega arith
 
--- src/lib.rt:168:5
 count-members-loop-less : (t : ℕ) → count-members-lts.Need-loop-less (
   is-short-reads.Asked,
   is-short-reads.Learnt,
@@ -479,7 +450,6 @@ count-members-loop-less : (t : ℕ) → count-members-lts.Need-loop-less (
 ) (count-members-at t) count-members.Post count-members-Inv-loop count-members-μ-loop
 count-members-loop-less t c = omega arith
 
--- src/lib.rt:168:5
 count-members-loop-again : (t : ℕ) → count-members-lts.Need-loop-again (
   is-short-reads.Asked,
   is-short-reads.Learnt,
@@ -490,7 +460,6 @@ count-members-loop-again : (t : ℕ) → count-members-lts.Need-loop-again (
 ) (count-members-at t) count-members.Post count-members-Inv-loop count-members-μ-loop
 count-members-loop-again t c = let i : (16 * ((c .before .n .given) .0 .0) + (c .before .before .before .before .before .loop .next) ≤ (c .before .n .given) .0 .1 .1 .0) × ((c .before .n .given) .0 .1 .0 ≤ (c .before .n .given) .0 .0) = inside-of (walkRuns (c .before .before .before .before .before .before .before .before .before .before .args .levels) (c .before .before .before .before .before .before .before .before .before .before .args .s .now)) (inside-walk (c .before .before .before .before .before .before .before .before .before .before .args .levels) (c .before .before .before .before .before .before .before .before .before .before .args .s .now)) (c .before .before .before .before .before .loop .next) _ _ _ _ (c .before .before .before .count-geometry .ensures) ((c .before .n .given) .1) in (turn-whole (walkRuns (c .before .before .before .before .before .before .before .before .before .before .args .levels) (c .before .before .before .before .before .before .before .before .before .before .args .s .now)) _ _ _ _ _ _ _ _ _ ((c .before .before .before .before .before .loop .inv) .0) (c .before .before .before .before .loop-test .taken) (c .before .before .before .count-geometry .ensures) ((c .before .n .given) .1), omega arith, omega arith)
 
--- src/lib.rt:158:1
 count-members-returns-3 : (t : ℕ) → count-members-lts.Need-returns-3 (
   is-short-reads.Asked,
   is-short-reads.Learnt,

@@ -1,10 +1,11 @@
+-- `coords::count_rings` meets its contract. Assumes nothing.
 use borrow.Author.Needs.{needs}
-use mathlib.Core.Path.{_≡_, refl, sym, _∙_, ap}
-use Prim.Native.Nat.{ℕ, _+_, _*_, _≤_, _-_}
+use mathlib.Core.Path.{_≡_, sym, _∙_}
+use Prim.Native.Nat.{_+_, _*_, _≤_, _-_}
 use native.Mathlib.Omega.{arith}
 use lib.ListN.{length}
 use Rattle.coords.specs.Walk.{mapParsed, times, listAt}
-use Rattle.coords.specs.ReaderRuns.{lineRuns}
+use Rattle.coords.specs.Inner.{lineRuns}
 use mathlib.Core.List.{[], _++_}
 use Rattle.coords.specs.Counts.{runCounts}
 use Rattle.coords.proofs.Laws.{room}
@@ -12,11 +13,6 @@ use Rattle.coords.proofs.Loops.{plus, plus-zero, rings-are, turn-refuse
 use Rattle.coords.proofs.Inside.{inside-line, inside-of}
 use Rattle.coords.proofs.count_rings.Statement.{statement}
 use Rattle.coords.proofs.count_rings.Tie as tie
-use Rattle.coords.proofs.count_rings.Reads as reads
-use Rattle.coords.proofs.count_rings.Lts as lts
-use Rattle.fields.proofs.u32_at.Reads as u32-at-reads
-use Rattle.coords.proofs.count_line.Reads as count-line-reads
-use Rattle.coords.proofs.is_short.Reads as is-short-reads
 
 abbrev Inv-loop : tie.InvT-loop
 Inv-loop s h at left₀ coords₀ runs₀ next₀ left coords runs next =
@@ -25,64 +21,49 @@ Inv-loop s h at left₀ coords₀ runs₀ next₀ left coords runs next =
 abbrev μ-loop : tie.MeasureT-loop
 μ-loop s h at left₀ coords₀ runs₀ next₀ left coords runs next = left
 
--- src/lib.rt:134:8
 is-short-requires : tie.Need-is-short-requires Inv-loop μ-loop
 is-short-requires c κs = search needs
 
--- src/lib.rt:135:9
 returns : tie.Need-returns Inv-loop μ-loop
 unfolding listAt runCounts mapParsed
 returns c = simp (← (c .before .is-short .ensures), (c .if1 .taken))
 
--- src/lib.rt:137:9
 u32-at-requires : tie.Need-u32-at-requires Inv-loop μ-loop
 u32-at-requires c κs = room _ _ _ (c .before .is-short .ensures) (c .if1 .left)
 
--- src/lib.rt:140:20
 add-next : tie.Need-add-next Inv-loop μ-loop
 add-next c = omega (arith, room (c .before .before .is-short .result) (length (c .before .before .before .before .args .s .now)) ((c .before .before .before .before .args .at) + 4) (c .before .before .is-short .ensures) (c .before .if1 .left))
 
--- src/lib.rt:141:5
 loop-holds : tie.Need-loop-holds Inv-loop μ-loop
 loop-holds c = (sym (plus-zero _), omega arith, omega arith)
 
--- src/lib.rt:142:15
 count-line-requires : tie.Need-count-line-requires Inv-loop μ-loop
 count-line-requires c κs = search needs
 
--- src/lib.rt:143:30
 enum-known-k : tie.Need-enum-known-k Inv-loop μ-loop
 enum-known-k c = search needs
 
--- src/lib.rt:144:17
 returns-2 : tie.Need-returns-2 Inv-loop μ-loop
 returns-2 c = sym (rings-are (c .before .before .before .before .before .before .before .before .before .before .args .h) (c .before .before .before .before .before .before .before .before .before .before .args .s .now) (c .before .before .before .before .before .before .before .before .before .before .args .at) (c .before .before .before .before .before .before .u32-at .result) (c .before .before .before .before .before .before .before .before .is-short .result) (c .before .before .before .before .before .before .before .before .is-short .ensures) (c .before .before .before .before .before .before .before .if1 .left) (c .before .before .before .before .before .before .u32-at .ensures) ∙ turn-refused (lineRuns (c .before .before .before .before .before .before .before .before .before .before .args .h) (c .before .before .before .before .before .before .before .before .before .before .args .s .now)) _ _ _ _ _ _ _ ((c .before .before .before .before .before .loop .inv) .0) (c .before .before .before .before .loop-test .taken) (c .before .before .before .count-line .ensures) ((c .before .k .given) .1))
 
--- src/lib.rt:146:38
 enum-known-n : tie.Need-enum-known-n Inv-loop μ-loop
 enum-known-n c = search needs
 
--- src/lib.rt:147:17
 add-coords : tie.Need-add-coords Inv-loop μ-loop
 add-coords c = let i : (16 * ((c .before .n .given) .0 .0) + (c .before .before .before .before .before .loop .next) ≤ (c .before .n .given) .0 .1 .1 .0) × ((c .before .n .given) .0 .1 .0 ≤ (c .before .n .given) .0 .0) = inside-of (lineRuns (c .before .before .before .before .before .before .before .before .before .before .args .h) (c .before .before .before .before .before .before .before .before .before .before .args .s .now)) (inside-line (c .before .before .before .before .before .before .before .before .before .before .args .h) (c .before .before .before .before .before .before .before .before .before .before .args .s .now)) (c .before .before .before .before .before .loop .next) _ _ _ _ (c .before .before .before .count-line .ensures) ((c .before .n .given) .1) in omega (arith, (c .known-told2 .given))
 
--- src/lib.rt:148:17
 add-runs : tie.Need-add-runs Inv-loop μ-loop
 add-runs c = let i : (16 * ((c .before .n .given) .0 .0) + (c .before .before .before .before .before .loop .next) ≤ (c .before .n .given) .0 .1 .1 .0) × ((c .before .n .given) .0 .1 .0 ≤ (c .before .n .given) .0 .0) = inside-of (lineRuns (c .before .before .before .before .before .before .before .before .before .before .args .h) (c .before .before .before .before .before .before .before .before .before .before .args .s .now)) (inside-line (c .before .before .before .before .before .before .before .before .before .before .args .h) (c .before .before .before .before .before .before .before .before .before .before .args .s .now)) (c .before .before .before .before .before .loop .next) _ _ _ _ (c .before .before .before .count-line .ensures) ((c .before .n .given) .1) in omega (arith, (c .known-told2 .given))
 
--- src/lib.rt:152:9
 sub-left : tie.Need-sub-left Inv-loop μ-loop
 sub-left c = omega arith
 
--- src/lib.rt:141:5
 loop-less : tie.Need-loop-less Inv-loop μ-loop
 loop-less c = omega arith
 
--- src/lib.rt:141:5
 loop-again : tie.Need-loop-again Inv-loop μ-loop
 loop-again c = let i : (16 * ((c .before .n .given) .0 .0) + (c .before .before .before .before .before .loop .next) ≤ (c .before .n .given) .0 .1 .1 .0) × ((c .before .n .given) .0 .1 .0 ≤ (c .before .n .given) .0 .0) = inside-of (lineRuns (c .before .before .before .before .before .before .before .before .before .before .args .h) (c .before .before .before .before .before .before .before .before .before .before .args .s .now)) (inside-line (c .before .before .before .before .before .before .before .before .before .before .args .h) (c .before .before .before .before .before .before .before .before .before .before .args .s .now)) (c .before .before .before .before .before .loop .next) _ _ _ _ (c .before .before .before .count-line .ensures) ((c .before .n .given) .1) in (turn-whole (lineRuns (c .before .before .before .before .before .before .before .before .before .before .args .h) (c .before .before .before .before .before .before .before .before .before .before .args .s .now)) _ _ _ _ _ _ _ _ _ ((c .before .before .before .before .before .loop .inv) .0) (c .before .before .before .before .loop-test .taken) (c .before .before .before .count-line .ensures) ((c .before .n .given) .1), omega arith, omega arith)
 
--- src/lib.rt:131:1
 returns-3 : tie.Need-returns-3 Inv-loop μ-loop
 returns-3 c = sym (rings-are (c .before .before .before .before .before .before .args .h) (c .before .before .before .before .before .before .args .s .now) (c .before .before .before .before .before .before .args .at) (c .before .before .u32-at .result) (c .before .before .before .before .is-short .result) (c .before .before .before .before .is-short .ensures) (c .before .before .before .if1 .left) (c .before .before .u32-at .ensures) ∙ turns-end (lineRuns (c .before .before .before .before .before .before .args .h) (c .before .before .before .before .before .before .args .s .now)) _ _ _ _ _ ((c .before .loop .inv) .0) (c .loop-test .left))
 

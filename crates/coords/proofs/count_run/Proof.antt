@@ -1,45 +1,34 @@
+-- `coords::count_run` meets its contract. Assumes nothing.
 use lib.ListN.{length}
-use Prim.Native.Nat.{ℕ, _+_, _*_}
-use Rattle.coords.proofs.Laws.{same-short, room, product-fits, oneIf, counts-run, one}
-use mathlib.Core.Path.{refl, sym, _∙_, ap}
+use Prim.Native.Nat.{_+_, _*_}
+use Rattle.coords.proofs.Laws.{room, product-fits, counts-run, one}
+use mathlib.Core.Path.{sym, _∙_}
 use native.Mathlib.Omega.{arith}
 use Rattle.coords.specs.Counts.{runCounts}
 use Rattle.coords.specs.Walk.{mapParsed, coordinatesAt}
-use borrow.Author.Tests.{le-ltb, lt-ltb, le-leb, lt-leb, eq-eqb, ne-eqb}
 use borrow.Author.Needs.{needs}
 use Rattle.coords.proofs.count_run.Statement.{statement}
 use Rattle.coords.proofs.count_run.Tie as tie
-use Rattle.coords.proofs.count_run.Reads as reads
-use Rattle.coords.proofs.count_run.Lts as lts
-use Rattle.coords.proofs.is_short.Reads as is-short-reads
-use Rattle.coords.proofs.stride_of.Reads as stride-of-reads
 
--- src/lib.rt:107:25
 stride-of-requires : tie.Need-stride-of-requires
 stride-of-requires c κs = search needs
 
--- src/lib.rt:107:17
 mul-total : tie.Need-mul-total
 mul-total c = rw (c .stride-of .ensures) (omega (arith, product-fits (c .before .before .args .h .z) (c .before .before .args .h .m) (c .before .before .args .n) (omega arith)))
 
--- src/lib.rt:108:8
 is-short-requires : tie.Need-is-short-requires
 is-short-requires c κs = search needs
 
--- src/lib.rt:109:9
 returns : tie.Need-returns
 unfolding coordinatesAt runCounts mapParsed
 returns c = simp (← (c .before .before .stride-of .ensures), ← (c .before .is-short .ensures), (c .if1 .taken))
 
--- src/lib.rt:111:16
 add-end : tie.Need-add-end
 add-end c = omega (arith, room (c .before .is-short .result) (length (c .before .before .before .before .args .s .now)) ((c .before .before .before .before .args .at) + (c .before .before .before .before .args .n) * (c .before .before .stride-of .result)) (c .before .is-short .ensures) (c .if1 .left))
 
--- src/lib.rt:103:1
 returns-2 : tie.Need-returns-2
 returns-2 c = sym (counts-run _ _ _ _ (rw (← (c .before .before .before .stride-of .ensures)) (sym (c .before .before .is-short .ensures) ∙ (c .before .if1 .left))) ∙ simp (← (c .before .before .before .stride-of .ensures), (c .if2 .taken)))
 
--- src/lib.rt:103:1
 returns-3 : tie.Need-returns-3
 returns-3 c = sym (counts-run _ _ _ _ (rw (← (c .before .before .before .stride-of .ensures)) (sym (c .before .before .is-short .ensures) ∙ (c .before .if1 .left))) ∙ simp (one _ (c .if2 .left), ← (c .before .before .before .stride-of .ensures)))
 

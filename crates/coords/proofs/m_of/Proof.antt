@@ -1,27 +1,21 @@
-use Rattle.coords.specs.Counts.{countsOf}
-use Rattle.coords.specs.Walk.{zOf, mOf, headerOfType, headerAt, strideOf, stride, walkOf}
-use borrow.Author.Tests.{le-ltb, lt-ltb, le-leb, lt-leb, eq-eqb, ne-eqb}
+-- `coords::m_of` meets its contract. Assumes nothing.
+use Rattle.coords.specs.Walk.{mOf}
+use borrow.Author.Tests.{eq-eqb, ne-eqb}
 use Rattle.coords.proofs.m_of.Statement.{statement}
 use Rattle.coords.proofs.m_of.Tie as tie
-use Rattle.coords.proofs.m_of.Reads as reads
-use Rattle.coords.proofs.m_of.Lts as lts
 
--- src/lib.rt:45:1
 returns : tie.Need-returns
 unfolding mOf
 returns c = simp (eq-eqb _ _ (c .match .keys1))
 
--- src/lib.rt:45:1
 returns-2 : tie.Need-returns-2
 unfolding mOf
 returns-2 c = simp ((c .match .keys2))
 
--- src/lib.rt:45:1
 returns-3 : tie.Need-returns-3
 unfolding mOf
 returns-3 c = simp ((c .match .keys3))
 
--- src/lib.rt:45:1
 returns-4 : tie.Need-returns-4
 unfolding mOf
 returns-4 c = simp (ne-eqb _ _ ((c .match .rest) .0 .0 .1), ne-eqb _ _ ((c .match .rest) .0 .1), ne-eqb _ _ ((c .match .rest) .1))

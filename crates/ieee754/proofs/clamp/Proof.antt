@@ -1,5 +1,5 @@
--- `roots::clamped` meets its contract. Assumes nothing.
-use Rattle.ieee754.specs.Helpers.{clamp-low, clamp-high, clamp-in}
+-- `clamp` meets its contract. Assumes nothing.
+use Rattle.ieee754.proofs.MinMaxCases.{clamp-low, clamp-high, clamp-in}
 use Rattle.ieee754.proofs.clamp.Statement.{statement}
 use Rattle.ieee754.proofs.clamp.Tie as tie
 

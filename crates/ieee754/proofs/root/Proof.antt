@@ -1,46 +1,45 @@
--- `roots::root` meets its contract. Assumes nothing.
-use mathlib.Core.Path.{_≡_, sym, ap, _∙_, subst}
-use mathlib.Core.Bool.{not}
+-- `root` meets its contract. Assumes nothing.
+use mathlib.Core.Path.{sym, ap, _∙_, subst}
 use Prim.Native.Nat.{ℕ}
-use native.Mathlib.Omega.{arith}
 use lib.Dec.{T}
 use lib.Ieee.{binary64, fits, ofBits}
 use lib.Ieee.Positive.{positive}
-use Rattle.ieee754.specs.Values.{root-nan, root-negative, root-zero, root-infinite, root-positive, positive-left, positive-no-nan, finite-bits, no-nan-bits}
+use Rattle.ieee754.proofs.PatternValues.{positive-finite-pattern, finite-pattern-no-nan}
+use Rattle.ieee754.proofs.RootCases.{root-of-positive-pattern, root-of-nan-test, root-of-negative, root-of-zero-test, root-of-infinite-test, positive-otherwise, positive-number}
 use Rattle.ieee754.proofs.root.Statement.{statement}
 use Rattle.ieee754.proofs.root.Tie as tie
 
 returns : tie.Need-returns
-returns c = root-nan (c .before .args .s) (c .if1 .taken)
+returns c = root-of-nan-test (c .before .args .s) (c .if1 .taken)
 
 returns-2 : tie.Need-returns-2
-returns-2 c = root-negative (c .before .before .args .s) (c .if2 .taken)
+returns-2 c = root-of-negative (c .before .before .args .s) (c .if2 .taken)
 
 returns-3 : tie.Need-returns-3
-returns-3 c = root-zero (c .before .before .before .args .s) (c .if3 .taken)
+returns-3 c = root-of-zero-test (c .before .before .before .args .s) (c .if3 .taken)
 
 returns-4 : tie.Need-returns-4
-returns-4 c = root-infinite (c .before .before .before .before .args .s) (c .if4 .taken)
+returns-4 c = root-of-infinite-test (c .before .before .before .before .args .s) (c .if4 .taken)
 
 held : (c : tie.Start) → T (fits binary64 (c .args .s))
 held c = subst T (sym (c .good .0 .1)) tt
 
 above : (c : tie.Else4) → T (positive (c .before .before .before .before .args .s))
-above c = positive-left (c .before .before .before .before .args .s) (c .before .before .before .if1 .left) (c .before .before .if2 .left) (c .before .if3 .left) (c .if4 .left)
+above c = positive-otherwise (c .before .before .before .before .args .s) (c .before .before .before .if1 .left) (c .before .before .if2 .left) (c .before .if3 .left) (c .if4 .left)
 
 float-to-bits-b : tie.Need-float-to-bits-b
-float-to-bits-b c = positive-no-nan (c .before .before .before .before .args .s) (above c)
+float-to-bits-b c = positive-number (c .before .before .before .before .args .s) (above c)
 
-root-bits-requires : tie.Need-root-bits-requires
-root-bits-requires c κs = finite-bits (c .before .before .before .before .args .s) (held (c .before .before .before .before)) (above c)
+root-pattern-requires : tie.Need-root-pattern-requires
+root-pattern-requires c κs = positive-finite-pattern (c .before .before .before .before .args .s) (held (c .before .before .before .before)) (above c)
 
 float-from-bits-result : tie.Need-float-from-bits-result
-float-from-bits-result c = no-nan-bits (c .root-bits .result) (c .root-bits .ensures .1)
+float-from-bits-result c = finite-pattern-no-nan (c .root-pattern .result) (c .root-pattern .ensures .1)
 
 returns-5 : tie.Need-returns-5
 returns-5 c =
     let e = c .before in
-    ap (λ (z : ℕ). ofBits binary64 z) (c .root-bits .ensures .0) ∙ root-positive (e .before .before .before .before .args .s) (held (e .before .before .before .before)) (above e)
+    ap (λ (z : ℕ). ofBits binary64 z) (c .root-pattern .ensures .0) ∙ root-of-positive-pattern (e .before .before .before .before .args .s) (held (e .before .before .before .before)) (above e)
 
 pub root-spec : {M : Type 1} → statement M
-root-spec = tie.close (tie.spec returns returns-2 returns-3 returns-4 float-to-bits-b root-bits-requires float-from-bits-result returns-5)
+root-spec = tie.close (tie.spec returns returns-2 returns-3 returns-4 float-to-bits-b root-pattern-requires float-from-bits-result returns-5)

@@ -1,22 +1,19 @@
--- `roots::digits` meets its contract. The invariant of its loop is `Turn`. Assumes nothing.
-use mathlib.Core.Path.{_≡_, sym, subst}
+-- `root_digits` meets its contract. The invariant of its loop is `DigitsSoFar`. Assumes nothing.
 use mathlib.Core.Logic.{⊎-elim}
-use Prim.Native.Nat.{ℕ, _+_, _-_, _*_, _/_, _%_, _^_, _≤_, _<_}
+use Prim.Native.Nat.{_-_, _<_}
 use native.Mathlib.Omega.{arith}
-use Rattle.ieee754.specs.Steps.{Turn, start, zero-digit, one-digit, finish}
+use Rattle.ieee754.proofs.DigitLoop.{DigitsSoFar, digits-start, zero-digit, one-digit, digits-finish}
 use Rattle.ieee754.proofs.root_digits.Statement.{statement}
 use Rattle.ieee754.proofs.root_digits.Tie as tie
-use Rattle.ieee754.proofs.root_digits.Reads as reads
-use Rattle.ieee754.proofs.root_digits.Lts as lts
 
 abbrev Inv-loop : tie.InvT-loop
-Inv-loop m q₀ rest₀ x₀ i₀ q rest x i = Turn m q rest x i
+Inv-loop m q₀ rest₀ x₀ i₀ q rest x i = DigitsSoFar m q rest x i
 
 abbrev μ-loop : tie.MeasureT-loop
 μ-loop m q₀ rest₀ x₀ i₀ q rest x i = 53 - i
 
 loop-holds : tie.Need-loop-holds Inv-loop μ-loop
-loop-holds c = start (c .args .m) (c .pre)
+loop-holds c = digits-start (c .args .m) (c .pre)
 
 mul-x : tie.Need-mul-x Inv-loop μ-loop
 mul-x c = omega arith
@@ -56,7 +53,7 @@ loop-again c =
     (c .if1 .came)
 
 returns : tie.Need-returns Inv-loop μ-loop
-returns c = let l = c .before .loop in finish (c .before .before .args .m) (l .q) (l .rest) (l .x) (l .i) (omega arith) (l .inv)
+returns c = let l = c .before .loop in digits-finish (c .before .before .args .m) (l .q) (l .rest) (l .x) (l .i) (omega arith) (l .inv)
 
 pub root-digits-spec : {M : Type 1} → statement M
 root-digits-spec = tie.close (tie.spec Inv-loop μ-loop loop-holds mul-x mul-rest add-rest mul-t add-t mul-q add-q add-i loop-less loop-again returns)

@@ -1,18 +1,18 @@
+-- `workspace::fill_geometry` and `workspace::fill_members` meet their contracts. Assumes nothing.
 use Rattle.coords.proofs.Classes.{class-point, class-line, class-polygon, class-collection, class-none, class-above, geometry-refused, geometry-is}
 use Rattle.coords.specs.Walk.{mapParsed, times, walkOf, pointClass, lineClass, polygonClass, collectionClass, unknownClass}
-use Rattle.coords.specs.ReaderRuns.{walkRuns}
+use Rattle.coords.specs.Inner.{walkRuns}
 use Rattle.coords.proofs.Runs.{contentRunsAt}
 use mathlib.Core.List.{[], _++_}
 use mathlib.Core.Logic.{_⊎_, inl, inr, ⊎-elim}
 use Rattle.workspace.proofs.Turns.{Turn, turn-none, first-ready, next-turn, last-turn, members-inside, members-are}
-use Rattle.workspace.proofs.Runs.{moved, ready-moved, filled-moved}
-use Rattle.workspace.specs.Fill.{Ready, Filled}
-use Rattle.fields.specs.Fields.{u32At}
-use lib.ListN.{length, set, length-set}
+use Rattle.workspace.proofs.Runs.{ready-moved, filled-moved}
+use Rattle.workspace.specs.Inner.{Ready}
+use lib.ListN.{length}
 use borrow.Author.Needs.{needs}
 use native.Mathlib.Omega.{arith}
-use Prim.Native.Nat.{ℕ, _+_, _-_, _*_, _<_, _≤_}
-use mathlib.Core.Path.{_≡_, refl, sym, ap, _∙_}
+use Prim.Native.Nat.{ℕ, _+_, _-_, _*_, _<_}
+use mathlib.Core.Path.{_≡_, refl, _∙_}
 use borrow.Fn.Kinds.{In}
 use borrow.Fn.PlainCycle.{Measures, is, falls, and}
 use Rattle.workspace.proofs.fill_geometry.Reads as fill-geometry
@@ -59,7 +59,6 @@ fill-members-below t =
     (falls 3 fill-members-kinds.ps _<_ μ-fill-members t)
     fill-members.Pre
 
--- src/lib.rt:141:9
 fill-geometry-returns : (t : ℕ) → fill-geometry-lts.Need-returns (
   read-header-reads.Asked,
   read-header-reads.Learnt,
@@ -75,7 +74,6 @@ fill-geometry-returns : (t : ℕ) → fill-geometry-lts.Need-returns (
 unfolding walkOf Ready mapParsed
 fill-geometry-returns t c = absurd (rw (c .if1 .taken) at ((c .before .before .before .before .pre) .1))
 
--- src/lib.rt:144:11
 fill-geometry-read-header-requires : (t : ℕ) → fill-geometry-lts.Need-read-header-requires (
   read-header-reads.Asked,
   read-header-reads.Learnt,
@@ -90,7 +88,6 @@ fill-geometry-read-header-requires : (t : ℕ) → fill-geometry-lts.Need-read-h
 ) (fill-geometry-at t) fill-geometry.Post
 fill-geometry-read-header-requires t c κs = search needs
 
--- src/lib.rt:145:32
 fill-geometry-enum-told : (t : ℕ) → fill-geometry-lts.Need-enum-told (
   read-header-reads.Asked,
   read-header-reads.Learnt,
@@ -105,7 +102,6 @@ fill-geometry-enum-told : (t : ℕ) → fill-geometry-lts.Need-enum-told (
 ) (fill-geometry-at t) fill-geometry.Post
 fill-geometry-enum-told t c = search needs
 
--- src/lib.rt:146:23
 fill-geometry-enum-known-h : (t : ℕ) → fill-geometry-lts.Need-enum-known-h (
   read-header-reads.Asked,
   read-header-reads.Learnt,
@@ -120,7 +116,6 @@ fill-geometry-enum-known-h : (t : ℕ) → fill-geometry-lts.Need-enum-known-h (
 ) (fill-geometry-at t) fill-geometry.Post
 fill-geometry-enum-known-h t c = search needs
 
--- src/lib.rt:154:22
 fill-geometry-fill-run-requires : (t : ℕ) → fill-geometry-lts.Need-fill-run-requires (
   read-header-reads.Asked,
   read-header-reads.Learnt,
@@ -136,7 +131,6 @@ fill-geometry-fill-run-requires : (t : ℕ) → fill-geometry-lts.Need-fill-run-
 unfolding contentRunsAt
 fill-geometry-fill-run-requires t c κs = ready-moved _ (c .before .before .before .before .before .before .before .before .before .before .before .args .p) _ _ _ (rw (geometry-is (c .before .before .before .before .before .before .before .before .before .before .before .args .levels) (c .before .before .before .before .before .before .before .before .before .before .before .args .s .now) (c .before .before .before .before .before .before .before .before .before .before .before .args .p .next) ((c .before .before .before .before .h .given) .0 .0) pointClass _ (c .before .before .before .before .before .before .before .if1 .left) (c .before .before .before .before .before .before .read-header .ensures) ((c .before .before .before .before .h .given) .1) (class-point _ (c .before .before .match2 .keys1))) at ((c .before .before .before .before .before .before .before .before .before .before .before .pre) .1))
 
--- src/lib.rt:155:22
 fill-geometry-fill-line-requires : (t : ℕ) → fill-geometry-lts.Need-fill-line-requires (
   read-header-reads.Asked,
   read-header-reads.Learnt,
@@ -152,7 +146,6 @@ fill-geometry-fill-line-requires : (t : ℕ) → fill-geometry-lts.Need-fill-lin
 unfolding contentRunsAt
 fill-geometry-fill-line-requires t c κs = ready-moved _ (c .before .before .before .before .before .before .before .before .before .before .before .args .p) _ _ _ (rw (geometry-is (c .before .before .before .before .before .before .before .before .before .before .before .args .levels) (c .before .before .before .before .before .before .before .before .before .before .before .args .s .now) (c .before .before .before .before .before .before .before .before .before .before .before .args .p .next) ((c .before .before .before .before .h .given) .0 .0) lineClass _ (c .before .before .before .before .before .before .before .if1 .left) (c .before .before .before .before .before .before .read-header .ensures) ((c .before .before .before .before .h .given) .1) (class-line _ (c .before .before .match2 .keys2))) at ((c .before .before .before .before .before .before .before .before .before .before .before .pre) .1))
 
--- src/lib.rt:156:27
 fill-geometry-fill-rings-requires : (t : ℕ) → fill-geometry-lts.Need-fill-rings-requires (
   read-header-reads.Asked,
   read-header-reads.Learnt,
@@ -168,7 +161,6 @@ fill-geometry-fill-rings-requires : (t : ℕ) → fill-geometry-lts.Need-fill-ri
 unfolding contentRunsAt
 fill-geometry-fill-rings-requires t c κs = ready-moved _ (c .before .before .before .before .before .before .before .before .before .before .before .args .p) _ _ _ (rw (geometry-is (c .before .before .before .before .before .before .before .before .before .before .before .args .levels) (c .before .before .before .before .before .before .before .before .before .before .before .args .s .now) (c .before .before .before .before .before .before .before .before .before .before .before .args .p .next) ((c .before .before .before .before .h .given) .0 .0) polygonClass _ (c .before .before .before .before .before .before .before .if1 .left) (c .before .before .before .before .before .before .read-header .ensures) ((c .before .before .before .before .h .given) .1) (class-polygon _ (c .before .before .match2 .keys3))) at ((c .before .before .before .before .before .before .before .before .before .before .before .pre) .1))
 
--- src/lib.rt:157:65
 fill-geometry-sub-fill-members : (t : ℕ) → fill-geometry-lts.Need-sub-fill-members (
   read-header-reads.Asked,
   read-header-reads.Learnt,
@@ -183,7 +175,6 @@ fill-geometry-sub-fill-members : (t : ℕ) → fill-geometry-lts.Need-sub-fill-m
 ) (fill-geometry-at t) fill-geometry.Post
 fill-geometry-sub-fill-members t c = omega (arith, (c .before .before .before .before .before .before .before .if1 .left))
 
--- src/lib.rt:157:36
 fill-geometry-fill-members-requires : (t : ℕ) → fill-geometry-lts.Need-fill-members-requires (
   read-header-reads.Asked,
   read-header-reads.Learnt,
@@ -199,7 +190,6 @@ fill-geometry-fill-members-requires : (t : ℕ) → fill-geometry-lts.Need-fill-
 unfolding contentRunsAt
 fill-geometry-fill-members-requires t c κs = (omega (arith, (c .before .before .before .before .before .before .before .before .before .before .before .before .before .pre) .0, (c .before .before .before .before .before .before .before .before .before .if1 .left)), ready-moved _ (c .before .before .before .before .before .before .before .before .before .before .before .before .before .args .p) _ _ _ (rw (geometry-is (c .before .before .before .before .before .before .before .before .before .before .before .before .before .args .levels) (c .before .before .before .before .before .before .before .before .before .before .before .before .before .args .s .now) (c .before .before .before .before .before .before .before .before .before .before .before .before .before .args .p .next) ((c .before .before .before .before .before .before .h .given) .0 .0) collectionClass _ (c .before .before .before .before .before .before .before .before .before .if1 .left) (c .before .before .before .before .before .before .before .before .read-header .ensures) ((c .before .before .before .before .before .before .h .given) .1) (class-collection _ ((c .before .before .before .before .match2 .rest) .0 .0 .1) ((c .before .before .before .before .match2 .rest) .0 .1) ((c .before .before .before .before .match2 .rest) .1) (c .before .before .before .if2 .left) (⊎-elim (λ w. inl (w .taken)) (λ w. inr (w .1 .left, w .2 .taken)) (c .before .before .if3 .came)))) at ((c .before .before .before .before .before .before .before .before .before .before .before .before .before .pre) .1)))
 
--- src/lib.rt:136:1
 fill-geometry-returns-2 : (t : ℕ) → fill-geometry-lts.Need-returns-2 (
   read-header-reads.Asked,
   read-header-reads.Learnt,
@@ -215,7 +205,6 @@ fill-geometry-returns-2 : (t : ℕ) → fill-geometry-lts.Need-returns-2 (
 unfolding Ready
 fill-geometry-returns-2 t c = absurd (rw (geometry-refused (c .before .before .before .before .before .before .before .args .levels) (c .before .before .before .before .before .before .before .args .s .now) (c .before .before .before .before .before .before .before .args .p .next) _ _ (c .before .before .before .if1 .left) (c .before .before .read-header .ensures) ((c .enum-told .given) .1)) at ((c .before .before .before .before .before .before .before .pre) .1))
 
--- src/lib.rt:136:1
 fill-geometry-same-length : (t : ℕ) → fill-geometry-lts.Need-same-length (
   read-header-reads.Asked,
   read-header-reads.Learnt,
@@ -230,7 +219,6 @@ fill-geometry-same-length : (t : ℕ) → fill-geometry-lts.Need-same-length (
 ) (fill-geometry-at t) fill-geometry.Post
 fill-geometry-same-length t c = (c .before .before .before .before .fill-run .kept) .1 .1 .1 .1 .0
 
--- src/lib.rt:136:1
 fill-geometry-same-length-2 : (t : ℕ) → fill-geometry-lts.Need-same-length-2 (
   read-header-reads.Asked,
   read-header-reads.Learnt,
@@ -245,7 +233,6 @@ fill-geometry-same-length-2 : (t : ℕ) → fill-geometry-lts.Need-same-length-2
 ) (fill-geometry-at t) fill-geometry.Post
 fill-geometry-same-length-2 t c = (c .before .before .before .before .fill-run .kept) .1 .1 .1 .1 .1 .0
 
--- src/lib.rt:136:1
 fill-geometry-returns-3 : (t : ℕ) → fill-geometry-lts.Need-returns-3 (
   read-header-reads.Asked,
   read-header-reads.Learnt,
@@ -261,7 +248,6 @@ fill-geometry-returns-3 : (t : ℕ) → fill-geometry-lts.Need-returns-3 (
 unfolding contentRunsAt
 fill-geometry-returns-3 t c = rw (geometry-is (c .before .before .before .before .before .before .before .before .before .before .before .before .before .before .before .before .args .levels) (c .before .before .before .before .before .before .before .before .before .before .before .before .before .before .before .before .args .s .now) (c .before .before .before .before .before .before .before .before .before .before .before .before .before .before .before .before .args .p .next) ((c .before .before .before .before .before .before .before .before .before .h .given) .0 .0) pointClass _ (c .before .before .before .before .before .before .before .before .before .before .before .before .if1 .left) (c .before .before .before .before .before .before .before .before .before .before .before .read-header .ensures) ((c .before .before .before .before .before .before .before .before .before .h .given) .1) (class-point _ (c .before .before .before .before .before .before .before .match2 .keys1))) (filled-moved _ (c .before .before .before .before .before .before .before .before .before .before .before .before .before .before .before .before .args .p) _ _ _ _ _ _ (c .before .before .before .before .fill-run .ensures))
 
--- src/lib.rt:136:1
 fill-geometry-same-length-3 : (t : ℕ) → fill-geometry-lts.Need-same-length-3 (
   read-header-reads.Asked,
   read-header-reads.Learnt,
@@ -276,7 +262,6 @@ fill-geometry-same-length-3 : (t : ℕ) → fill-geometry-lts.Need-same-length-3
 ) (fill-geometry-at t) fill-geometry.Post
 fill-geometry-same-length-3 t c = (c .before .before .before .before .fill-line .kept) .1 .1 .1 .0
 
--- src/lib.rt:136:1
 fill-geometry-same-length-4 : (t : ℕ) → fill-geometry-lts.Need-same-length-4 (
   read-header-reads.Asked,
   read-header-reads.Learnt,
@@ -291,7 +276,6 @@ fill-geometry-same-length-4 : (t : ℕ) → fill-geometry-lts.Need-same-length-4
 ) (fill-geometry-at t) fill-geometry.Post
 fill-geometry-same-length-4 t c = (c .before .before .before .before .fill-line .kept) .1 .1 .1 .1 .0
 
--- src/lib.rt:136:1
 fill-geometry-returns-4 : (t : ℕ) → fill-geometry-lts.Need-returns-4 (
   read-header-reads.Asked,
   read-header-reads.Learnt,
@@ -307,7 +291,6 @@ fill-geometry-returns-4 : (t : ℕ) → fill-geometry-lts.Need-returns-4 (
 unfolding contentRunsAt
 fill-geometry-returns-4 t c = rw (geometry-is (c .before .before .before .before .before .before .before .before .before .before .before .before .before .before .before .before .args .levels) (c .before .before .before .before .before .before .before .before .before .before .before .before .before .before .before .before .args .s .now) (c .before .before .before .before .before .before .before .before .before .before .before .before .before .before .before .before .args .p .next) ((c .before .before .before .before .before .before .before .before .before .h .given) .0 .0) lineClass _ (c .before .before .before .before .before .before .before .before .before .before .before .before .if1 .left) (c .before .before .before .before .before .before .before .before .before .before .before .read-header .ensures) ((c .before .before .before .before .before .before .before .before .before .h .given) .1) (class-line _ (c .before .before .before .before .before .before .before .match2 .keys2))) (filled-moved _ (c .before .before .before .before .before .before .before .before .before .before .before .before .before .before .before .before .args .p) _ _ _ _ _ _ (c .before .before .before .before .fill-line .ensures))
 
--- src/lib.rt:136:1
 fill-geometry-same-length-5 : (t : ℕ) → fill-geometry-lts.Need-same-length-5 (
   read-header-reads.Asked,
   read-header-reads.Learnt,
@@ -322,7 +305,6 @@ fill-geometry-same-length-5 : (t : ℕ) → fill-geometry-lts.Need-same-length-5
 ) (fill-geometry-at t) fill-geometry.Post
 fill-geometry-same-length-5 t c = (c .before .before .before .before .fill-rings .kept) .1 .1 .1 .0
 
--- src/lib.rt:136:1
 fill-geometry-same-length-6 : (t : ℕ) → fill-geometry-lts.Need-same-length-6 (
   read-header-reads.Asked,
   read-header-reads.Learnt,
@@ -337,7 +319,6 @@ fill-geometry-same-length-6 : (t : ℕ) → fill-geometry-lts.Need-same-length-6
 ) (fill-geometry-at t) fill-geometry.Post
 fill-geometry-same-length-6 t c = (c .before .before .before .before .fill-rings .kept) .1 .1 .1 .1 .0
 
--- src/lib.rt:136:1
 fill-geometry-returns-5 : (t : ℕ) → fill-geometry-lts.Need-returns-5 (
   read-header-reads.Asked,
   read-header-reads.Learnt,
@@ -353,7 +334,6 @@ fill-geometry-returns-5 : (t : ℕ) → fill-geometry-lts.Need-returns-5 (
 unfolding contentRunsAt
 fill-geometry-returns-5 t c = rw (geometry-is (c .before .before .before .before .before .before .before .before .before .before .before .before .before .before .before .before .args .levels) (c .before .before .before .before .before .before .before .before .before .before .before .before .before .before .before .before .args .s .now) (c .before .before .before .before .before .before .before .before .before .before .before .before .before .before .before .before .args .p .next) ((c .before .before .before .before .before .before .before .before .before .h .given) .0 .0) polygonClass _ (c .before .before .before .before .before .before .before .before .before .before .before .before .if1 .left) (c .before .before .before .before .before .before .before .before .before .before .before .read-header .ensures) ((c .before .before .before .before .before .before .before .before .before .h .given) .1) (class-polygon _ (c .before .before .before .before .before .before .before .match2 .keys3))) (filled-moved _ (c .before .before .before .before .before .before .before .before .before .before .before .before .before .before .before .before .args .p) _ _ _ _ _ _ (c .before .before .before .before .fill-rings .ensures))
 
--- src/lib.rt:136:1
 fill-geometry-same-length-7 : (t : ℕ) → fill-geometry-lts.Need-same-length-7 (
   read-header-reads.Asked,
   read-header-reads.Learnt,
@@ -368,7 +348,6 @@ fill-geometry-same-length-7 : (t : ℕ) → fill-geometry-lts.Need-same-length-7
 ) (fill-geometry-at t) fill-geometry.Post
 fill-geometry-same-length-7 t c = (c .before .before .before .before .fill-members .kept) .1 .1 .1 .1 .0
 
--- src/lib.rt:136:1
 fill-geometry-same-length-8 : (t : ℕ) → fill-geometry-lts.Need-same-length-8 (
   read-header-reads.Asked,
   read-header-reads.Learnt,
@@ -383,7 +362,6 @@ fill-geometry-same-length-8 : (t : ℕ) → fill-geometry-lts.Need-same-length-8
 ) (fill-geometry-at t) fill-geometry.Post
 fill-geometry-same-length-8 t c = (c .before .before .before .before .fill-members .kept) .1 .1 .1 .1 .1 .0
 
--- src/lib.rt:136:1
 fill-geometry-returns-6 : (t : ℕ) → fill-geometry-lts.Need-returns-6 (
   read-header-reads.Asked,
   read-header-reads.Learnt,
@@ -399,7 +377,6 @@ fill-geometry-returns-6 : (t : ℕ) → fill-geometry-lts.Need-returns-6 (
 unfolding contentRunsAt
 fill-geometry-returns-6 t c = rw (geometry-is (c .before .before .before .before .before .before .before .before .before .before .before .before .before .before .before .before .before .before .args .levels) (c .before .before .before .before .before .before .before .before .before .before .before .before .before .before .before .before .before .before .args .s .now) (c .before .before .before .before .before .before .before .before .before .before .before .before .before .before .before .before .before .before .args .p .next) ((c .before .before .before .before .before .before .before .before .before .before .before .h .given) .0 .0) collectionClass _ (c .before .before .before .before .before .before .before .before .before .before .before .before .before .before .if1 .left) (c .before .before .before .before .before .before .before .before .before .before .before .before .before .read-header .ensures) ((c .before .before .before .before .before .before .before .before .before .before .before .h .given) .1) (class-collection _ ((c .before .before .before .before .before .before .before .before .before .match2 .rest) .0 .0 .1) ((c .before .before .before .before .before .before .before .before .before .match2 .rest) .0 .1) ((c .before .before .before .before .before .before .before .before .before .match2 .rest) .1) (c .before .before .before .before .before .before .before .before .if2 .left) (⊎-elim (λ w. inl (w .taken)) (λ w. inr (w .1 .left, w .2 .taken)) (c .before .before .before .before .before .before .before .if3 .came)))) (filled-moved _ (c .before .before .before .before .before .before .before .before .before .before .before .before .before .before .before .before .before .before .args .p) _ _ _ _ _ _ (c .before .before .before .before .fill-members .ensures))
 
--- src/lib.rt:136:1
 fill-geometry-returns-7 : (t : ℕ) → fill-geometry-lts.Need-returns-7 (
   read-header-reads.Asked,
   read-header-reads.Learnt,
@@ -415,7 +392,6 @@ fill-geometry-returns-7 : (t : ℕ) → fill-geometry-lts.Need-returns-7 (
 unfolding contentRunsAt Ready
 fill-geometry-returns-7 t c = absurd (rw (geometry-is (c .before .before .before .before .before .before .before .before .before .before .args .levels) (c .before .before .before .before .before .before .before .before .before .before .args .s .now) (c .before .before .before .before .before .before .before .before .before .before .args .p .next) ((c .before .before .before .h .given) .0 .0) unknownClass _ (c .before .before .before .before .before .before .if1 .left) (c .before .before .before .before .before .read-header .ensures) ((c .before .before .before .h .given) .1) (class-none _ (c .if2 .taken))) at ((c .before .before .before .before .before .before .before .before .before .before .pre) .1))
 
--- src/lib.rt:136:1
 fill-geometry-returns-8 : (t : ℕ) → fill-geometry-lts.Need-returns-8 (
   read-header-reads.Asked,
   read-header-reads.Learnt,
@@ -431,7 +407,6 @@ fill-geometry-returns-8 : (t : ℕ) → fill-geometry-lts.Need-returns-8 (
 unfolding contentRunsAt Ready
 fill-geometry-returns-8 t c = absurd (rw (geometry-is (c .before .before .before .before .before .before .before .before .before .before .before .before .args .levels) (c .before .before .before .before .before .before .before .before .before .before .before .before .args .s .now) (c .before .before .before .before .before .before .before .before .before .before .before .before .args .p .next) ((c .before .before .before .before .before .h .given) .0 .0) unknownClass _ (c .before .before .before .before .before .before .before .before .if1 .left) (c .before .before .before .before .before .before .before .read-header .ensures) ((c .before .before .before .before .before .h .given) .1) (class-above _ (c .before .if3 .left) (omega arith) (omega arith) (omega arith))) at ((c .before .before .before .before .before .before .before .before .before .before .before .before .pre) .1))
 
--- src/lib.rt:136:1
 fill-geometry-returns-9 : (t : ℕ) → fill-geometry-lts.Need-returns-9 (
   read-header-reads.Asked,
   read-header-reads.Learnt,
@@ -454,7 +429,6 @@ fill-members-Inv-loop s little levels floats₀ table₀ at left₀ place₀ flo
 abbrev fill-members-μ-loop : fill-members-lts.MeasureT-loop
 fill-members-μ-loop s little levels floats₀ table₀ at left₀ place₀ floats table left progress = left
 
--- src/lib.rt:122:9
 fill-members-u32-at-requires : (t : ℕ) → fill-members-lts.Need-u32-at-requires (
   u32-at-reads.Asked,
   u32-at-reads.Learnt,
@@ -463,7 +437,6 @@ fill-members-u32-at-requires : (t : ℕ) → fill-members-lts.Need-u32-at-requir
 ) (fill-members-at t) fill-members.Post fill-members-Inv-loop fill-members-μ-loop
 fill-members-u32-at-requires t c κs = members-inside (c .before .before .before .args .levels) (c .before .before .before .args .little) (c .before .before .before .args .s .now) (c .before .before .before .args .p .next) (c .before .before .before .args .p) (length (c .before .before .before .args .floats .now)) (length (c .before .before .before .args .table .now)) ((c .before .before .before .pre) .1)
 
--- src/lib.rt:126:15
 fill-members-add-t10 : (t : ℕ) → fill-members-lts.Need-add-t10 (
   u32-at-reads.Asked,
   u32-at-reads.Learnt,
@@ -472,7 +445,6 @@ fill-members-add-t10 : (t : ℕ) → fill-members-lts.Need-add-t10 (
 ) (fill-members-at t) fill-members.Post fill-members-Inv-loop fill-members-μ-loop
 fill-members-add-t10 t c = omega (arith, members-inside (c .before .before .before .before .args .levels) (c .before .before .before .before .args .little) (c .before .before .before .before .args .s .now) (c .before .before .before .before .args .p .next) (c .before .before .before .before .args .p) (length (c .before .before .before .before .args .floats .now)) (length (c .before .before .before .before .args .table .now)) ((c .before .before .before .before .pre) .1))
 
--- src/lib.rt:128:5
 fill-members-loop-holds : (t : ℕ) → fill-members-lts.Need-loop-holds (
   u32-at-reads.Asked,
   u32-at-reads.Learnt,
@@ -481,7 +453,6 @@ fill-members-loop-holds : (t : ℕ) → fill-members-lts.Need-loop-holds (
 ) (fill-members-at t) fill-members.Post fill-members-Inv-loop fill-members-μ-loop
 fill-members-loop-holds t c = (turn-none _ _ _ _ _ _ (rw (c .u32-at .ensures) (ready-moved _ (c .before .before .before .before .args .p) _ _ _ (rw (members-are (c .before .before .before .before .args .levels) (c .before .before .before .before .args .little) (c .before .before .before .before .args .s .now) (c .before .before .before .before .args .p .next) (c .before .before .before .before .args .p) (length (c .before .before .before .before .args .floats .now)) (length (c .before .before .before .before .args .table .now)) ((c .before .before .before .before .pre) .1)) at ((c .before .before .before .before .pre) .1)))), refl, refl)
 
--- src/lib.rt:129:9
 fill-members-fill-geometry-requires : (t : ℕ) → fill-members-lts.Need-fill-geometry-requires (
   u32-at-reads.Asked,
   u32-at-reads.Learnt,
@@ -490,7 +461,6 @@ fill-members-fill-geometry-requires : (t : ℕ) → fill-members-lts.Need-fill-g
 ) (fill-members-at t) fill-members.Post fill-members-Inv-loop fill-members-μ-loop
 fill-members-fill-geometry-requires t c κs = (omega (arith, (c .before .before .before .before .before .before .before .before .pre) .0), rw ((c .before .before .before .loop .inv) .1, (c .before .before .before .loop .inv) .2) (first-ready (walkRuns (c .before .before .before .before .before .before .before .before .args .levels) (c .before .before .before .before .before .before .before .before .args .s .now)) _ _ _ _ _ (c .before .before .loop-test .taken) ((c .before .before .before .loop .inv) .0 .ready)))
 
--- src/lib.rt:130:9
 fill-members-sub-left : (t : ℕ) → fill-members-lts.Need-sub-left (
   u32-at-reads.Asked,
   u32-at-reads.Learnt,
@@ -499,7 +469,6 @@ fill-members-sub-left : (t : ℕ) → fill-members-lts.Need-sub-left (
 ) (fill-members-at t) fill-members.Post fill-members-Inv-loop fill-members-μ-loop
 fill-members-sub-left t c = omega arith
 
--- src/lib.rt:128:5
 fill-members-loop-less : (t : ℕ) → fill-members-lts.Need-loop-less (
   u32-at-reads.Asked,
   u32-at-reads.Learnt,
@@ -508,7 +477,6 @@ fill-members-loop-less : (t : ℕ) → fill-members-lts.Need-loop-less (
 ) (fill-members-at t) fill-members.Post fill-members-Inv-loop fill-members-μ-loop
 fill-members-loop-less t c = omega arith
 
--- src/lib.rt:128:5
 fill-members-loop-again : (t : ℕ) → fill-members-lts.Need-loop-again (
   u32-at-reads.Asked,
   u32-at-reads.Learnt,
@@ -517,7 +485,6 @@ fill-members-loop-again : (t : ℕ) → fill-members-lts.Need-loop-again (
 ) (fill-members-at t) fill-members.Post fill-members-Inv-loop fill-members-μ-loop
 fill-members-loop-again t c = (next-turn (walkRuns (c .before .before .before .before .before .before .before .before .before .before .before .before .before .args .levels) (c .before .before .before .before .before .before .before .before .before .before .before .before .before .args .s .now)) _ _ _ _ _ _ _ _ _ _ _ _ _ (c .before .before .before .before .before .before .before .loop-test .taken) ((c .before .before .before .before .before .before .before .before .loop .inv) .0) (c .before .before .before .before .fill-geometry .ensures), (c .before .before .before .before .fill-geometry .kept) .1 .1 .1 .0 ∙ (c .before .before .before .before .before .before .before .before .loop .inv) .1, (c .before .before .before .before .fill-geometry .kept) .1 .1 .1 .1 .0 ∙ (c .before .before .before .before .before .before .before .before .loop .inv) .2)
 
--- src/lib.rt:117:1
 fill-members-same-length : (t : ℕ) → fill-members-lts.Need-same-length (
   u32-at-reads.Asked,
   u32-at-reads.Learnt,
@@ -526,7 +493,6 @@ fill-members-same-length : (t : ℕ) → fill-members-lts.Need-same-length (
 ) (fill-members-at t) fill-members.Post fill-members-Inv-loop fill-members-μ-loop
 fill-members-same-length t c = (c .before .loop .inv) .1
 
--- src/lib.rt:117:1
 fill-members-same-length-2 : (t : ℕ) → fill-members-lts.Need-same-length-2 (
   u32-at-reads.Asked,
   u32-at-reads.Learnt,
@@ -535,7 +501,6 @@ fill-members-same-length-2 : (t : ℕ) → fill-members-lts.Need-same-length-2 (
 ) (fill-members-at t) fill-members.Post fill-members-Inv-loop fill-members-μ-loop
 fill-members-same-length-2 t c = (c .before .loop .inv) .2
 
--- src/lib.rt:117:1
 fill-members-returns : (t : ℕ) → fill-members-lts.Need-returns (
   u32-at-reads.Asked,
   u32-at-reads.Learnt,

@@ -1,21 +1,15 @@
+-- `workspace::fill_rings` meets its contract. Assumes nothing.
 use Rattle.workspace.proofs.Turns.{Turn, turn-none, first-ready, next-turn, last-turn, rings-inside, rings-are}
-use Rattle.workspace.proofs.Runs.{moved, ready-moved, filled-moved}
-use Rattle.workspace.specs.Fill.{Ready, Filled}
+use Rattle.workspace.proofs.Runs.{ready-moved, filled-moved}
 use Rattle.coords.specs.Walk.{times}
-use Rattle.coords.specs.ReaderRuns.{lineRuns}
+use Rattle.coords.specs.Inner.{lineRuns}
 use mathlib.Core.List.{[], _++_}
-use Rattle.fields.specs.Fields.{u32At}
-use lib.ListN.{length, set, length-set}
-use borrow.Author.Needs.{needs}
+use lib.ListN.{length}
 use native.Mathlib.Omega.{arith}
-use Prim.Native.Nat.{ℕ, _+_, _-_, _*_, _<_, _≤_}
-use mathlib.Core.Path.{_≡_, refl, sym, ap, _∙_}
+use Prim.Native.Nat.{_+_, _-_}
+use mathlib.Core.Path.{_≡_, refl, _∙_}
 use Rattle.workspace.proofs.fill_rings.Statement.{statement}
 use Rattle.workspace.proofs.fill_rings.Tie as tie
-use Rattle.workspace.proofs.fill_rings.Reads as reads
-use Rattle.workspace.proofs.fill_rings.Lts as lts
-use Rattle.fields.proofs.u32_at.Reads as u32-at-reads
-use Rattle.workspace.proofs.fill_line.Reads as fill-line-reads
 
 abbrev Inv-loop : tie.InvT-loop
 Inv-loop s h floats₀ table₀ at left₀ place₀ floats table left place =
@@ -24,43 +18,33 @@ Inv-loop s h floats₀ table₀ at left₀ place₀ floats table left place =
 abbrev μ-loop : tie.MeasureT-loop
 μ-loop s h floats₀ table₀ at left₀ place₀ floats table left progress = left
 
--- src/lib.rt:103:9
 u32-at-requires : tie.Need-u32-at-requires Inv-loop μ-loop
 u32-at-requires c κs = rings-inside (c .before .before .before .args .h) (c .before .before .before .args .s .now) (c .before .before .before .args .p .next) (c .before .before .before .args .p) (length (c .before .before .before .args .floats .now)) (length (c .before .before .before .args .table .now)) (c .before .before .before .pre)
 
--- src/lib.rt:107:15
 add-t9 : tie.Need-add-t9 Inv-loop μ-loop
 add-t9 c = omega (arith, rings-inside (c .before .before .before .before .args .h) (c .before .before .before .before .args .s .now) (c .before .before .before .before .args .p .next) (c .before .before .before .before .args .p) (length (c .before .before .before .before .args .floats .now)) (length (c .before .before .before .before .args .table .now)) (c .before .before .before .before .pre))
 
--- src/lib.rt:109:5
 loop-holds : tie.Need-loop-holds Inv-loop μ-loop
 loop-holds c = (turn-none _ _ _ _ _ _ (rw (c .u32-at .ensures) (ready-moved _ (c .before .before .before .before .args .p) _ _ _ (rw (rings-are (c .before .before .before .before .args .h) (c .before .before .before .before .args .s .now) (c .before .before .before .before .args .p .next) (c .before .before .before .before .args .p) (length (c .before .before .before .before .args .floats .now)) (length (c .before .before .before .before .args .table .now)) (c .before .before .before .before .pre)) at (c .before .before .before .before .pre)))), refl, refl)
 
--- src/lib.rt:110:9
 fill-line-requires : tie.Need-fill-line-requires Inv-loop μ-loop
 fill-line-requires c κs = rw ((c .before .before .before .loop .inv) .1, (c .before .before .before .loop .inv) .2) (first-ready (lineRuns (c .before .before .before .before .before .before .before .before .args .h) (c .before .before .before .before .before .before .before .before .args .s .now)) _ _ _ _ _ (c .before .before .loop-test .taken) ((c .before .before .before .loop .inv) .0 .ready))
 
--- src/lib.rt:111:9
 sub-left : tie.Need-sub-left Inv-loop μ-loop
 sub-left c = omega arith
 
--- src/lib.rt:109:5
 loop-less : tie.Need-loop-less Inv-loop μ-loop
 loop-less c = omega arith
 
--- src/lib.rt:109:5
 loop-again : tie.Need-loop-again Inv-loop μ-loop
 loop-again c = (next-turn (lineRuns (c .before .before .before .before .before .before .before .before .before .before .before .before .before .args .h) (c .before .before .before .before .before .before .before .before .before .before .before .before .before .args .s .now)) _ _ _ _ _ _ _ _ _ _ _ _ _ (c .before .before .before .before .before .before .before .loop-test .taken) ((c .before .before .before .before .before .before .before .before .loop .inv) .0) (c .before .before .before .before .fill-line .ensures), (c .before .before .before .before .fill-line .kept) .1 .1 .1 .0 ∙ (c .before .before .before .before .before .before .before .before .loop .inv) .1, (c .before .before .before .before .fill-line .kept) .1 .1 .1 .1 .0 ∙ (c .before .before .before .before .before .before .before .before .loop .inv) .2)
 
--- src/lib.rt:98:1
 same-length : tie.Need-same-length Inv-loop μ-loop
 same-length c = (c .before .loop .inv) .1
 
--- src/lib.rt:98:1
 same-length-2 : tie.Need-same-length-2 Inv-loop μ-loop
 same-length-2 c = (c .before .loop .inv) .2
 
--- src/lib.rt:98:1
 returns : tie.Need-returns Inv-loop μ-loop
 returns c = let z : (c .before .loop .left) ≡ 0 = omega arith in rw (rings-are (c .before .before .before .before .before .before .args .h) (c .before .before .before .before .before .before .args .s .now) (c .before .before .before .before .before .before .args .p .next) (c .before .before .before .before .before .before .args .p) (length (c .before .before .before .before .before .before .args .floats .now)) (length (c .before .before .before .before .before .before .args .table .now)) (c .before .before .before .before .before .before .pre), ← (c .before .before .u32-at .ensures)) (filled-moved _ (c .before .before .before .before .before .before .args .p) _ _ _ _ _ _ (last-turn (lineRuns (c .before .before .before .before .before .before .args .h) (c .before .before .before .before .before .before .args .s .now)) _ _ _ _ _ _ _ _ _ _ z ((c .before .loop .inv) .0)))
 

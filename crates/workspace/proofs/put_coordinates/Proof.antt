@@ -1,20 +1,15 @@
+-- `workspace::put_coordinates` meets its contract. Assumes nothing.
 use Rattle.workspace.proofs.Laws.{one-more, coordinates-turn}
 use Rattle.workspace.specs.Workspace.{floatsPerCoordinate, coordinatesFloats}
-use Rattle.coords.specs.Walk.{strideOf, ordinateIf, coordinateAt, coordinatesFrom}
-use lib.Seq.{sets, length-sets}
-use lib.ListN.{length, set, length-set}
+use Rattle.coords.specs.Walk.{coordinatesFrom}
+use lib.Seq.{sets}
+use lib.ListN.{length}
 use borrow.Author.Needs.{needs}
-use native.Mathlib.Numerals.{add-one, add-two}
 use native.Mathlib.Omega.{arith}
-use Prim.Native.Nat.{ℕ, _+_, _-_, _*_, _<_, _≤_}
-use mathlib.Core.List.{[], _∷_}
-use mathlib.Core.Path.{_≡_, refl, sym, ap, _∙_}
+use Prim.Native.Nat.{_+_, _-_, _*_, _≤_}
+use mathlib.Core.Path.{_≡_, refl, sym, _∙_}
 use Rattle.workspace.proofs.put_coordinates.Statement.{statement}
 use Rattle.workspace.proofs.put_coordinates.Tie as tie
-use Rattle.workspace.proofs.put_coordinates.Reads as reads
-use Rattle.workspace.proofs.put_coordinates.Lts as lts
-use Rattle.workspace.proofs.put_coordinate.Reads as put-coordinate-reads
-use Rattle.coords.proofs.stride_of.Reads as stride-of-reads
 
 abbrev Inv-loop : tie.InvT-loop
 Inv-loop s h n at floats₀ i stride left₀ pos₀ j₀ floats left pos j =
@@ -23,44 +18,34 @@ Inv-loop s h n at floats₀ i stride left₀ pos₀ j₀ floats left pos j =
 abbrev μ-loop : tie.MeasureT-loop
 μ-loop s h n at floats₀ i stride left₀ pos₀ j₀ floats left pos j = left
 
--- src/lib.rt:49:9
 stride-of-requires : tie.Need-stride-of-requires Inv-loop μ-loop
 stride-of-requires c κs = search needs
 
--- src/lib.rt:53:5
 loop-holds : tie.Need-loop-holds Inv-loop μ-loop
 loop-holds c = (refl, rw (c .stride-of .ensures) ((c .before .before .before .pre) .0), omega arith, refl)
 
--- src/lib.rt:54:9
 put-coordinate-requires : tie.Need-put-coordinate-requires Inv-loop μ-loop
 put-coordinate-requires c κs = let e = one-more (c .before .before .loop .left) (c .before .before .before .stride-of .result) (c .before .loop-test .taken) in (rw (← (c .before .before .before .stride-of .ensures)) (omega arith), omega arith)
 
--- src/lib.rt:55:9
 add-pos : tie.Need-add-pos Inv-loop μ-loop
 add-pos c = let e = one-more (c .before .before .before .before .before .loop .left) (c .before .before .before .before .before .before .stride-of .result) (c .before .before .before .before .loop-test .taken) in omega arith
 
--- src/lib.rt:56:9
 add-j : tie.Need-add-j Inv-loop μ-loop
 add-j c = omega arith
 
--- src/lib.rt:57:9
 sub-left : tie.Need-sub-left Inv-loop μ-loop
 sub-left c = omega arith
 
--- src/lib.rt:53:5
 loop-less : tie.Need-loop-less Inv-loop μ-loop
 loop-less c = omega arith
 
--- src/lib.rt:53:5
 loop-again : tie.Need-loop-again Inv-loop μ-loop
 loop-again c = let e = one-more (c .before .before .before .before .before .loop .left) (c .before .before .before .before .before .before .stride-of .result) (c .before .before .before .before .loop-test .taken) in
     (rw ((c .before .before .put-coordinate .ensures), (c .before .before .before .before .before .before .stride-of .ensures)) ((c .before .before .before .before .before .loop .inv) .0 ∙ coordinates-turn _ _ _ _ _ _ (c .before .before .before .before .loop-test .taken)), omega arith, omega arith, (c .before .before .put-coordinate .kept) .1 .1 .1 .0 ∙ (c .before .before .before .before .before .loop .inv) .3)
 
--- src/lib.rt:44:1
 same-length : tie.Need-same-length Inv-loop μ-loop
 same-length c = (c .before .loop .inv) .3
 
--- src/lib.rt:44:1
 returns : tie.Need-returns Inv-loop μ-loop
 unfolding coordinatesFrom coordinatesFloats
 returns c = let z : (c .before .loop .left) ≡ 0 = omega arith in sym ((c .before .loop .inv) .0 ∙ rw z)

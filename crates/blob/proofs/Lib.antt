@@ -1,0 +1,4 @@
+pub mod Order
+pub mod Outcome
+pub mod LineReadBack
+pub mod PointReadBack

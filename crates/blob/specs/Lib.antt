@@ -1,0 +1,2 @@
+pub mod Blob
+pub mod Inner

@@ -1,0 +1,117 @@
+-- What the tree of a geometry comes to (document 01, Parts): its runs, their numbers, the vertices, the deepest level. Definitions only.
+use Prim.Native.Nat.{ℕ, suc, _+_}
+use mathlib.Core.List.{List, [], _∷_, _++_, map}
+use mathlib.Core.Bool.{Bool, cond, _||_}
+use lib.ListN.{length}
+use lib.Dec.{ltb, eqb}
+use Rattle.coords.specs.Walk.{Coordinate, Geometry, geometry, Content, point, line, rings, members, Members, none, more, Parsed, ok, refused}
+
+-- ---- runs
+
+-- the kind of the geometry that a run belongs to, and the run's coordinates, of whatever type
+pub data Run (A : Type 0) : Type 0 where
+  run : ℕ → List A → Run A
+
+-- f of every coordinate
+unfoldable pub mapRuns : {A B : Type 0} → (A → B) → List (Run A) → List (Run B)
+mapRuns f [] = []
+mapRuns f (run kind cs ∷ rs) = run kind (map f cs) ∷ mapRuns f rs
+
+-- a run with no coordinate is none
+unfoldable pub nonEmptyRun : ℕ → List Coordinate → List (Run Coordinate)
+nonEmptyRun kind [] = []
+nonEmptyRun kind (c ∷ cs) = run kind (c ∷ cs) ∷ []
+
+-- a run for each ring, holes too
+unfoldable pub ringsRuns : ℕ → List (List Coordinate) → List (Run Coordinate)
+ringsRuns kind [] = []
+ringsRuns kind (ring ∷ rs) = nonEmptyRun kind ring ++ ringsRuns kind rs
+
+unfoldable mutual
+  -- each run with at least one coordinate, in walk order
+  pub runsOf : Geometry → List (Run Coordinate)
+  runsOf (geometry kind z m content) = contentRuns kind content
+
+  pub contentRuns : ℕ → Content → List (Run Coordinate)
+  contentRuns kind (point c) = run kind (c ∷ []) ∷ []
+  contentRuns kind (line cs) = nonEmptyRun kind cs
+  contentRuns kind (rings rs) = ringsRuns kind rs
+  contentRuns kind (members gs) = membersRuns gs
+
+  pub membersRuns : Members → List (Run Coordinate)
+  membersRuns none = []
+  membersRuns (more g gs) = runsOf g ++ membersRuns gs
+
+-- the runs of a walk; none where it refuses
+unfoldable pub walkedRuns : Parsed Geometry → List (Run Coordinate)
+walkedRuns (ok g end) = runsOf g
+walkedRuns (refused k) = []
+
+-- N, the coordinates of all runs; R is the number of runs
+unfoldable pub coordinateCount : {A : Type 0} → List (Run A) → ℕ
+coordinateCount [] = 0
+coordinateCount (run kind cs ∷ rs) = length cs + coordinateCount rs
+
+-- ---- vertices (document 01, Farthest sweep)
+
+-- the kind 1: a point
+abbrev pub isPoint : ℕ → Bool
+isPoint kind = eqb kind 1
+
+-- the kind 2: a line
+abbrev pub isLine : ℕ → Bool
+isLine kind = eqb kind 2
+
+-- the kinds 3 and 17: each ring of a polygon or triangle is a filled face
+abbrev pub isFace : ℕ → Bool
+isFace kind = eqb kind 3 || eqb kind 17
+
+-- the coordinates of the point runs
+unfoldable pub pointVertices : {A : Type 0} → List (Run A) → List A
+pointVertices [] = []
+pointVertices (run kind cs ∷ rs) = cond (isPoint kind) cs [] ++ pointVertices rs
+
+-- both ends of each segment of a line that starts at a, a segment's start before its end
+unfoldable pub endsFrom : {A : Type 0} → A → List A → List A
+endsFrom a [] = []
+endsFrom a (b ∷ cs) = a ∷ b ∷ endsFrom b cs
+
+-- both ends of each segment of a line: n - 1 segments, one coordinate gives nothing
+unfoldable pub segmentEnds : {A : Type 0} → List A → List A
+segmentEnds [] = []
+segmentEnds (a ∷ cs) = endsFrom a cs
+
+-- the ends of the line runs' segments
+unfoldable pub segmentVertices : {A : Type 0} → List (Run A) → List A
+segmentVertices [] = []
+segmentVertices (run kind cs ∷ rs) = cond (isLine kind) (segmentEnds cs) [] ++ segmentVertices rs
+
+-- the coordinates of the faces
+unfoldable pub faceVertices : {A : Type 0} → List (Run A) → List A
+faceVertices [] = []
+faceVertices (run kind cs ∷ rs) = cond (isFace kind) cs [] ++ faceVertices rs
+
+-- all points, then both ends of every segment, then face vertices, each kind in walk order
+unfoldable pub verticesOf : {A : Type 0} → List (Run A) → List A
+verticesOf rs = pointVertices rs ++ (segmentVertices rs ++ faceVertices rs)
+
+-- ---- levels
+
+-- the greater of two numbers
+abbrev pub max : ℕ → ℕ → ℕ
+max a b = cond (ltb a b) b a
+
+unfoldable mutual
+  -- the deepest level below a geometry, itself at level 0
+  pub deepestLevel : Geometry → ℕ
+  deepestLevel (geometry kind z m content) = contentLevel content
+
+  pub contentLevel : Content → ℕ
+  contentLevel (point c) = 0
+  contentLevel (line cs) = 0
+  contentLevel (rings rs) = 0
+  contentLevel (members gs) = membersLevel gs
+
+  pub membersLevel : Members → ℕ
+  membersLevel none = 0
+  membersLevel (more g gs) = max (suc (deepestLevel g)) (membersLevel gs)

@@ -1,0 +1,39 @@
+-- `primitives::Aabb::add` meets its contract. Assumes nothing.
+use borrow.Author.Needs.{needs}
+use Rattle.primitives.specs.Boxes.{addPoint}
+use Rattle.primitives.proofs.Aabb.add.Statement.{statement}
+use Rattle.primitives.proofs.Aabb.add.Tie as tie
+
+minimum-requires : tie.Need-minimum-requires
+minimum-requires c κs = search needs
+
+minimum-requires-2 : tie.Need-minimum-requires-2
+minimum-requires-2 c κs = search needs
+
+minimum-requires-3 : tie.Need-minimum-requires-3
+minimum-requires-3 c κs = search needs
+
+maximum-requires : tie.Need-maximum-requires
+maximum-requires c κs = search needs
+
+maximum-requires-2 : tie.Need-maximum-requires-2
+maximum-requires-2 c κs = search needs
+
+maximum-requires-3 : tie.Need-maximum-requires-3
+maximum-requires-3 c κs = search needs
+
+returns : tie.Need-returns
+unfolding addPoint
+returns c = cc
+
+pub add-spec : {M : Type 1} → statement M
+add-spec =
+    tie.close
+    (tie.spec
+    minimum-requires
+    minimum-requires-2
+    minimum-requires-3
+    maximum-requires
+    maximum-requires-2
+    maximum-requires-3
+    returns)

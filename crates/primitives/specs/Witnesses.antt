@@ -1,0 +1,31 @@
+-- A witness is a distance with its two points (document 01, Witness and boxes). Definitions only.
+use mathlib.Core.Bool.{cond}
+use lib.Ieee.{Float, lt}
+use Rattle.ieee754.specs.Root.{rootOf}
+use Rattle.primitives.specs.declared.Point.{Point}
+use Rattle.primitives.specs.declared.Witness.{Witness}
+use Rattle.primitives.specs.Vectors.{squaredDistance}
+
+-- a distance d with the points a and b
+unfoldable pub witnessOf : Float → Point → Point → Witness
+witnessOf d a b = record { d = d; ax = a .x; ay = a .y; az = a .z; bx = b .x; by = b .y; bz = b .z }
+
+-- the distance of a and b: differences, squares, sum left to right, root
+unfoldable pub betweenOf : Point → Point → Witness
+betweenOf a b = witnessOf (rootOf (squaredDistance a b)) a b
+
+-- the smaller of two is the second only if strictly less
+unfoldable pub smallerOf : Witness → Witness → Witness
+smallerOf w other = cond (lt (other .d) (w .d)) other w
+
+-- the point on the first side
+unfoldable pub firstPoint : Witness → Point
+firstPoint w = record { x = w .ax; y = w .ay; z = w .az }
+
+-- the point on the second side
+unfoldable pub secondPoint : Witness → Point
+secondPoint w = record { x = w .bx; y = w .by; z = w .bz }
+
+-- the same distance, its points exchanged
+unfoldable pub flippedOf : Witness → Witness
+flippedOf w = witnessOf (w .d) (secondPoint w) (firstPoint w)
