@@ -37,7 +37,7 @@ blobChecks s floats numbers = bytesChecks s ++ (check 15 (tooSmall (runsOfBlob s
 abbrev pub refusal : ℕ → Refusal
 refusal number = record { number = number; side = 1 }
 
--- ---- what to lend
+-- ---- what to lend: an entry for callers, beside document 01's operations
 
 -- by the first check of the bytes that holds: a refusal, or 3N floats and 2R numbers
 unfoldable pub sizesBy : Option ℕ → List (Run Coordinate) → Sizes

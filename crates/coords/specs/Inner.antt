@@ -1,4 +1,4 @@
--- The runs of what each reader of the walk gives: for the contracts of inner functions only; no public contract speaks of these. Definitions only.
+-- The runs of what each reader of the walk gives: for the contracts of functions that other crates build on; no entry's contract speaks of these. Definitions only.
 use Prim.Native.Nat.{ℕ}
 use mathlib.Core.List.{List}
 use mathlib.Core.Bool.{Bool}

@@ -28,7 +28,7 @@ unfoldable pub taking : (Float → Float → Bool) → Option Witness → Witnes
 taking beats none w = some w
 taking beats (some best) w = cond (beats (best .d) (w .d)) (some w) (some best)
 
--- both sweeps, "the box of all": a list's points added in order; none if there is no point
+-- "the box of all b" of the farthest sweep: a list's points added in order; none if there is no point
 unfoldable pub boxOfAll : List Point → Option Aabb
 boxOfAll [] = none
 boxOfAll (p ∷ l) = some (foldl addPoint (boxOfPoint p) l)
