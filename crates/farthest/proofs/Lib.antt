@@ -1,0 +1,9 @@
+-- The laws of the farthest sweep.
+pub mod Unskipped
+pub mod LongestLine
+pub mod Repeated
+pub mod BestPair
+pub mod Appended
+pub mod PointTurns
+pub mod ClassTurns
+pub mod VerticesOnce

@@ -1,0 +1,3 @@
+pub mod Farthest
+pub mod Answer
+pub mod Inner

@@ -1,0 +1,406 @@
+// The farthest sweep: plain loops over the runs of two workspaces, class by class.
+use primitives::Aabb;
+use primitives::Point;
+use primitives::Witness;
+ghost use mathlib.Core.Path.{_≡_};
+ghost use mathlib.Core.List.{[], _∷_};
+ghost use mathlib.Core.Option.{none};
+ghost use Prim.Native.Nat.{_+_, _*_, _≤_, _<_};
+ghost use lib.ListN.{length};
+ghost use Rattle.coords.specs.Parts.{verticesOf};
+ghost use Rattle.workspace.specs.Workspace.{floatsPerCoordinate};
+ghost use Rattle.parts.specs.Stored.{pointsFrom, storedRuns, runCount, Laid};
+ghost use Rattle.primitives.specs.Vectors.{squaredDistance};
+ghost use Rattle.primitives.specs.Witnesses.{betweenOf};
+ghost use Rattle.extremes.specs.Sweeps.{taking, longer};
+ghost use Rattle.farthest.specs.Farthest.{noFarther, farthestFrom, farthestOf};
+ghost use Rattle.farthest.specs.Answer.{answerOf};
+ghost use Rattle.farthest.specs.Inner.{pairOf, Sound, Keeps, classAt, classVertices, verticesOnce, occurs, Occurs, emptyBox, boxWith, swept, sweptOnce};
+
+// The farthest pair, or none.
+pub enum FarthestPair {
+    Nothing,
+    Found(Witness),
+}
+
+// The best pair so far: whether there is one, its sum of squares (NaN while there is none), and its witness.
+pub struct Best {
+    pub found: bool,
+    pub sum: f64,
+    pub w: Witness,
+}
+
+// Which classes a table has.
+pub struct Classes {
+    pub points: bool,
+    pub lines: bool,
+    pub faces: bool,
+}
+
+// The better of the best pair and p with q, whose sum of squares is s: first pair taken, later ones only if strictly longer.
+fn offer(best: Best, p: Point, q: Point, s: f64) -> Best
+    requires { ⌜ Sound best ⌝ }
+    requires { ⌜ s ≡ squaredDistance p q ⌝ }
+    ensures { λ r. ⌜ Keeps r (taking longer (pairOf best) (betweenOf p q)) ⌝ }
+{
+    let d = ieee754::root(s);
+    let longest = best.w.d;
+    if best.found {
+        if d > longest {} else {
+            return best;
+        }
+    }
+    Best {
+        found: true,
+        sum: s,
+        w: Witness {
+            d,
+            ax: p.x,
+            ay: p.y,
+            az: p.z,
+            bx: q.x,
+            by: q.y,
+            bz: q.z,
+        },
+    }
+}
+
+// p against the points of a run. No root is taken where the sum of squares is no greater than the best pair's.
+fn against_run(best: Best, p: Point, floats: &[f64], first: usize, count: usize) -> Best
+    requires { ⌜ Sound best ⌝ }
+    requires { ⌜ floatsPerCoordinate * (first + count) ≤ length (now floats) ⌝ }
+    ensures { λ r. ⌜ Keeps r (farthestFrom (pointsFrom (now (floats .entry)) first count) (pairOf best) p) ⌝ }
+{
+    let mut b = best;
+    let mut at = first;
+    let mut left = count;
+    while 0 < left {
+        let q = parts::point_at(floats, at);
+        let s = primitives::dist_sq(p, q);
+        if s <= b.sum {} else {
+            b = offer(b, p, q, s);
+        }
+        at += 1;
+        left -= 1;
+    }
+    b
+}
+
+// The class in which the coordinates of run r are vertices.
+fn class_at(table: &[u32], r: usize) -> u32
+    requires { ⌜ r < runCount (now table) ⌝ }
+    ensures { λ k. ⌜ k ≡ classAt (now (table .entry)) r ⌝ }
+{
+    let kind = parts::kind_at(table, r);
+    if kind == 2 {
+        if parts::count_at(table, r) < 2 {
+            return 0;
+        }
+    }
+    parts::run_class(kind)
+}
+
+// p against the vertices of a class.
+fn against_class(best: Best, p: Point, floats: &[f64], table: &[u32], class: u32) -> Best
+    requires { ⌜ Sound best ⌝ }
+    requires { ⌜ Laid (now table) (now floats) ⌝ }
+    ensures { λ r. ⌜ Keeps r (farthestFrom (classVertices class (storedRuns (now (table .entry)) (now (floats .entry)))) (pairOf best) p) ⌝ }
+{
+    let runs = parts::run_count(table);
+    let mut b = best;
+    let mut at = 0;
+    let mut r = 0;
+    while r < runs {
+        let count = parts::count_at(table, r);
+        if class_at(table, r) == class {
+            b = against_run(b, p, floats, at, count);
+        }
+        at += count;
+        r += 1;
+    }
+    b
+}
+
+// Whether a table has a run of a class.
+fn occurs_in(table: &[u32], class: u32) -> bool
+    ensures { λ r. ⌜ r ≡ occurs class (now (table .entry)) ⌝ }
+{
+    let runs = parts::run_count(table);
+    let mut r = 0;
+    while r < runs {
+        if class_at(table, r) == class {
+            return true;
+        }
+        r += 1;
+    }
+    false
+}
+
+// Which classes occur.
+fn occurring(table: &[u32]) -> Classes
+    ensures { λ r. ⌜ Occurs r (now (table .entry)) ⌝ }
+{
+    Classes {
+        points: occurs_in(table, parts::POINTS),
+        lines: occurs_in(table, parts::LINES),
+        faces: occurs_in(table, parts::FACES),
+    }
+}
+
+// The same, where it is known whether the class occurs: if not, it is not walked.
+fn against_occurring(
+    best: Best,
+    p: Point,
+    floats: &[f64],
+    table: &[u32],
+    class: u32,
+    any: bool,
+) -> Best
+    requires { ⌜ Sound best ⌝ }
+    requires { ⌜ Laid (now table) (now floats) ⌝ }
+    requires { ⌜ any ≡ occurs class (now table) ⌝ }
+    ensures { λ r. ⌜ Keeps r (farthestFrom (classVertices class (storedRuns (now (table .entry)) (now (floats .entry)))) (pairOf best) p) ⌝ }
+{
+    if any {
+        return against_class(best, p, floats, table, class);
+    }
+    best
+}
+
+// p against all vertices.
+fn against_all(best: Best, p: Point, floats: &[f64], table: &[u32], has: Classes) -> Best
+    requires { ⌜ Sound best ⌝ }
+    requires { ⌜ Laid (now table) (now floats) ⌝ }
+    requires { ⌜ Occurs has (now table) ⌝ }
+    ensures { λ r. ⌜ Keeps r (farthestFrom (verticesOnce (storedRuns (now (table .entry)) (now (floats .entry)))) (pairOf best) p) ⌝ }
+{
+    let b = against_occurring(best, p, floats, table, parts::POINTS, has.points);
+    let b = against_occurring(b, p, floats, table, parts::LINES, has.lines);
+    against_occurring(b, p, floats, table, parts::FACES, has.faces)
+}
+
+// 1 + 2^-49
+const ONE_PLUS_SLACK: f64 = 1.0000000000000017763568394002504646778106689453125;
+
+// The skip: no vertex in the box is farther from p than the best pair is apart.
+fn no_farther(b: Best, p: Point, around: Aabb) -> bool
+    ensures { λ r. ⌜ r ≡ noFarther around (pairOf b) p ⌝ }
+{
+    if b.found {
+        let d = b.w.d;
+        Aabb::point(p).max_dist_sq(around) * ONE_PLUS_SLACK <= d * d
+    } else {
+        false
+    }
+}
+
+// One vertex of side 1 against side 2, unless it is skipped.
+fn visit(best: Best, p: Point, floats: &[f64], table: &[u32], has: Classes, around: Aabb) -> Best
+    requires { ⌜ Sound best ⌝ }
+    requires { ⌜ Laid (now table) (now floats) ⌝ }
+    requires { ⌜ Occurs has (now table) ⌝ }
+    ensures { λ r. ⌜ Keeps r (swept around (verticesOnce (storedRuns (now (table .entry)) (now (floats .entry)))) (pairOf best) (p ∷ [])) ⌝ }
+{
+    if no_farther(best, p, around) {
+        return best;
+    }
+    against_all(best, p, floats, table, has)
+}
+
+// The points of a run of side 1 against side 2.
+fn visit_run(
+    best: Best,
+    floats1: &[f64],
+    first: usize,
+    count: usize,
+    floats2: &[f64],
+    table2: &[u32],
+    has: Classes,
+    around: Aabb,
+) -> Best
+    requires { ⌜ Sound best ⌝ }
+    requires { ⌜ floatsPerCoordinate * (first + count) ≤ length (now floats1) ⌝ }
+    requires { ⌜ Laid (now table2) (now floats2) ⌝ }
+    requires { ⌜ Occurs has (now table2) ⌝ }
+    ensures { λ r. ⌜ Keeps r (swept around (verticesOnce (storedRuns (now (table2 .entry)) (now (floats2 .entry)))) (pairOf best) (pointsFrom (now (floats1 .entry)) first count)) ⌝ }
+{
+    let mut b = best;
+    let mut at = first;
+    let mut left = count;
+    while 0 < left {
+        b = visit(
+            b,
+            parts::point_at(floats1, at),
+            floats2,
+            table2,
+            has,
+            around,
+        );
+        at += 1;
+        left -= 1;
+    }
+    b
+}
+
+// The vertices of a class of side 1 against side 2.
+fn visit_class(
+    best: Best,
+    floats1: &[f64],
+    table1: &[u32],
+    class: u32,
+    floats2: &[f64],
+    table2: &[u32],
+    has: Classes,
+    around: Aabb,
+) -> Best
+    requires { ⌜ Sound best ⌝ }
+    requires { ⌜ Laid (now table1) (now floats1) ⌝ }
+    requires { ⌜ Laid (now table2) (now floats2) ⌝ }
+    requires { ⌜ Occurs has (now table2) ⌝ }
+    ensures { λ r. ⌜ Keeps r (swept around (verticesOnce (storedRuns (now (table2 .entry)) (now (floats2 .entry)))) (pairOf best) (classVertices class (storedRuns (now (table1 .entry)) (now (floats1 .entry))))) ⌝ }
+{
+    let runs = parts::run_count(table1);
+    let mut b = best;
+    let mut at = 0;
+    let mut r = 0;
+    while r < runs {
+        let count = parts::count_at(table1, r);
+        if class_at(table1, r) == class {
+            b = visit_run(b, floats1, at, count, floats2, table2, has, around);
+        }
+        at += count;
+        r += 1;
+    }
+    b
+}
+
+// A box with the points of a run added.
+fn box_run(start: Aabb, floats: &[f64], first: usize, count: usize) -> Aabb
+    requires { ⌜ floatsPerCoordinate * (first + count) ≤ length (now floats) ⌝ }
+    ensures { λ r. ⌜ r ≡ boxWith start (pointsFrom (now (floats .entry)) first count) ⌝ }
+{
+    let mut b = start;
+    let mut at = first;
+    let mut left = count;
+    while 0 < left {
+        b = b.add(parts::point_at(floats, at));
+        at += 1;
+        left -= 1;
+    }
+    b
+}
+
+// A box with the vertices of a class added.
+fn box_class(start: Aabb, floats: &[f64], table: &[u32], class: u32) -> Aabb
+    requires { ⌜ Laid (now table) (now floats) ⌝ }
+    ensures { λ r. ⌜ r ≡ boxWith start (classVertices class (storedRuns (now (table .entry)) (now (floats .entry)))) ⌝ }
+{
+    let runs = parts::run_count(table);
+    let mut b = start;
+    let mut at = 0;
+    let mut r = 0;
+    while r < runs {
+        let count = parts::count_at(table, r);
+        if class_at(table, r) == class {
+            b = box_run(b, floats, at, count);
+        }
+        at += count;
+        r += 1;
+    }
+    b
+}
+
+// The box of all vertices; of none, the box of NaNs, which every point replaces.
+fn box_all(floats: &[f64], table: &[u32]) -> Aabb
+    requires { ⌜ Laid (now table) (now floats) ⌝ }
+    ensures { λ r. ⌜ r ≡ boxWith emptyBox (verticesOnce (storedRuns (now (table .entry)) (now (floats .entry)))) ⌝ }
+{
+    let n = 0.0 / 0.0;
+    let b = Aabb {
+        lo_x: n,
+        lo_y: n,
+        lo_z: n,
+        hi_x: n,
+        hi_y: n,
+        hi_z: n,
+    };
+    let points = box_class(b, floats, table, parts::POINTS);
+    let lines = box_class(points, floats, table, parts::LINES);
+    box_class(lines, floats, table, parts::FACES)
+}
+
+// No pair yet.
+fn none_yet() -> Best
+    ensures { λ r. ⌜ Keeps r none ⌝ }
+{
+    let w = Witness {
+        d: 0.0,
+        ax: 0.0,
+        ay: 0.0,
+        az: 0.0,
+        bx: 0.0,
+        by: 0.0,
+        bz: 0.0,
+    };
+    Best {
+        found: false,
+        sum: 0.0 / 0.0,
+        w,
+    }
+}
+
+// All vertices of side 1 against side 2.
+fn visit_all(floats1: &[f64], table1: &[u32], floats2: &[f64], table2: &[u32]) -> Best
+    requires { ⌜ Laid (now table1) (now floats1) ⌝ }
+    requires { ⌜ Laid (now table2) (now floats2) ⌝ }
+    ensures { λ r. ⌜ Keeps r (sweptOnce (storedRuns (now (table1 .entry)) (now (floats1 .entry))) (storedRuns (now (table2 .entry)) (now (floats2 .entry)))) ⌝ }
+{
+    let around = box_all(floats2, table2);
+    let has = occurring(table2);
+    let b = none_yet();
+    let b = visit_class(
+        b,
+        floats1,
+        table1,
+        parts::POINTS,
+        floats2,
+        table2,
+        has,
+        around,
+    );
+    let b = visit_class(
+        b,
+        floats1,
+        table1,
+        parts::LINES,
+        floats2,
+        table2,
+        has,
+        around,
+    );
+    visit_class(
+        b,
+        floats1,
+        table1,
+        parts::FACES,
+        floats2,
+        table2,
+        has,
+        around,
+    )
+}
+
+// The farthest pair of a vertex of side 1 and one of side 2.
+pub fn farthest(floats1: &[f64], table1: &[u32], floats2: &[f64], table2: &[u32]) -> FarthestPair
+    requires { ⌜ Laid (now table1) (now floats1) ⌝ }
+    requires { ⌜ Laid (now table2) (now floats2) ⌝ }
+    ensures { λ r. ⌜ r ≡ answerOf (farthestOf (verticesOf (storedRuns (now (table1 .entry)) (now (floats1 .entry)))) (verticesOf (storedRuns (now (table2 .entry)) (now (floats2 .entry))))) ⌝ }
+{
+    let all = visit_all(floats1, table1, floats2, table2);
+    if all.found {
+        let w = all.w;
+        FarthestPair::Found(w)
+    } else {
+        FarthestPair::Nothing
+    }
+}

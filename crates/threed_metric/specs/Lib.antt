@@ -1,0 +1,4 @@
+pub mod Answers
+pub mod Operations
+pub mod ThirdProperty
+pub mod Inner
