@@ -35,7 +35,7 @@ header-after s p =
 
 module _ (s : List ℕ) where
   -- what was read from p on ends in the blob
-  Within : {A : Type 0} → ℕ → Parsed A → Type 0
+  unfoldable pub Within : {A : Type 0} → ℕ → Parsed A → Type 0
   Within p (ok x end) = (p ≤ end) × (end ≤ length s)
   Within p (refused k) = Unit
 
@@ -60,7 +60,7 @@ module _ (s : List ℕ) where
       go true e = tt
       go false e = after (f c (p + 4)) (each c (p + 4) (ltb-false (length s) (p + 4) e))
 
-  line-within : (h : WkbHeader) (p : ℕ) → Within p (lineAt h s p)
+  pub line-within : (h : WkbHeader) (p : ℕ) → Within p (lineAt h s p)
   unfolding lineAt
   line-within h p = count-within (coordinatesAt h s) (λ c q l. coordinates-within h c q) (u32At (h .little) s p) p
 
@@ -77,7 +77,7 @@ module _ (s : List ℕ) where
       go rest (refused k) i = tt
       go rest (ok x next) i = join x next (times cons nil f c next) (i .0) (rest next (i .1))
 
-  list-within : {A B : Type 0} (cons : A → B → B) (nil : B) (f : ℕ → Parsed A) (each : (q : ℕ) → Within q (f q)) (little : Bool) (p : ℕ) → Within p (listAt cons nil f little s p)
+  pub list-within : {A B : Type 0} (cons : A → B → B) (nil : B) (f : ℕ → Parsed A) (each : (q : ℕ) → Within q (f q)) (little : Bool) (p : ℕ) → Within p (listAt cons nil f little s p)
   unfolding listAt
   list-within cons nil f each little p = count-within (times cons nil f) (times-within cons nil f each) (u32At little s p) p
 

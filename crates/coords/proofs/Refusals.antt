@@ -18,98 +18,106 @@ use Rattle.coords.specs.Walk.{Geometry, geometry, point, line, rings, me
 use Rattle.coords.specs.Walk as walk
 use Rattle.coords.specs.Refusals.{refusedWith, isAccepted, walkChecks}
 
+-- what holds of the number of every refusal
+module _ (P : ℕ → Type 0) where
+  unfoldable pub Numbered : {A : Type 0} → Parsed A → Type 0
+  Numbered (ok a end) = Unit
+  Numbered (refused k) = P k
+
+  unfoldable pub HeaderNumbered : ParsedHeader → Type 0
+  HeaderNumbered (header.Read h) = Unit
+  HeaderNumbered (header.Refused k) = P k
+
+  numbered-map : {A B : Type 0} (f : A → B) (r : Parsed A) → Numbered r → Numbered (mapParsed f r)
+  unfolding Numbered mapParsed
+  numbered-map f (ok a end) h = tt
+  numbered-map f (refused k) h = h
+
+-- coordinates, lines and lists of things refuse with 9, or as the things do
+module _ (P : ℕ → Type 0) (nine : P 9) where
+  pub numbered-needed : {A : Type 0} (b : Bool) (r : Parsed A) → Numbered P r → Numbered P (cond b (refused 9) r)
+  unfolding Numbered
+  numbered-needed true r h = nine
+  numbered-needed false r h = h
+
+  numbered-read : {A : Type 0} (b : Bool) (a : A) (end : ℕ) → Numbered P (cond b (refused 9) (ok a end))
+  unfolding Numbered
+  numbered-read b a end = numbered-needed b (ok a end) tt
+
+  numbered-coordinates : (h : WkbHeader) (s : List ℕ) (n at : ℕ) → Numbered P (coordinatesAt h s n at)
+  unfolding coordinatesAt
+  numbered-coordinates h s n at = numbered-read (ltb (length s) (at + n * stride h)) (coordinatesFrom h s n at) (at + n * stride h)
+
+  pub numbered-line : (h : WkbHeader) (s : List ℕ) (at : ℕ) → Numbered P (lineAt h s at)
+  unfolding lineAt
+  numbered-line h s at = numbered-needed (ltb (length s) (at + 4)) (coordinatesAt h s (u32At (h .little) s at) (at + 4)) (numbered-coordinates h s (u32At (h .little) s at) (at + 4))
+
+  numbered-point : (h : WkbHeader) (s : List ℕ) (at : ℕ) → Numbered P (pointAt h s at)
+  unfolding pointAt
+  numbered-point h s at = numbered-read (ltb (length s) (at + stride h)) (coordinateAt h s at) (at + stride h)
+
+  module _ {A B : Type 0} (cons : A → B → B) (nil : B) (f : ℕ → Parsed A) (each : (at : ℕ) → Numbered P (f at)) where
+    numbered-times : (n at : ℕ) → Numbered P (times cons nil f n at)
+    unfolding times Numbered
+    numbered-times zero at = tt
+    numbered-times (suc n) at = go (numbered-times n) (f at) (each at)
+      where
+        join : (a : A) (r : Parsed B) → Numbered P r → Numbered P (consParsed cons a r)
+        join a (ok b end) h = tt
+        join a (refused k) h = h
+
+        go : ((i : ℕ) → Numbered P (times cons nil f n i)) → (r : Parsed A) → Numbered P r → Numbered P (andThen cons r (times cons nil f n))
+        go rest (ok a next) h = join a (times cons nil f n next) (rest next)
+        go rest (refused k) h = h
+
+    pub numbered-list : (little : Bool) (s : List ℕ) (at : ℕ) → Numbered P (listAt cons nil f little s at)
+    unfolding listAt
+    numbered-list little s at = numbered-needed (ltb (length s) (at + 4)) (times cons nil f (u32At little s at) (at + 4)) (numbered-times (u32At little s at) (at + 4))
+
+  -- a header with 9 or 10
+  header-tests : P 10 → (a b c d : Bool) (g h : WkbHeader) → HeaderNumbered P (cond a (header.Refused 9) (cond b (header.Refused 10) (cond c (cond d (header.Refused 9) (header.Read g)) (header.Read h))))
+  unfolding HeaderNumbered
+  header-tests ten true b c d g h = nine
+  header-tests ten false true c d g h = ten
+  header-tests ten false false true true g h = nine
+  header-tests ten false false true false g h = tt
+  header-tests ten false false false d g h = tt
+
+  pub numbered-header : P 10 → (s : List ℕ) (at : ℕ) → HeaderNumbered P (headerAt s at)
+  unfolding headerAt headerOfType
+  numbered-header ten s at =
+      let little = eqb (getD s at 0) 1 in
+      let code = u32At little s (at + 1) in
+      header-tests ten (ltb (length s) (at + 5)) (ltb 1 (getD s at 0)) (hasFlag 0x20000000 code) (ltb (length s) (at + 9)) (headerOf little code (at + 9)) (headerOf little code (at + 5))
+
 -- a refusal of the walk is one of 9 to 12
 abbrev pub WalkNumber : ℕ → Type 0
 WalkNumber k = (9 ≤ k) × (k ≤ 12)
 
-Numbered : {A : Type 0} → Parsed A → Type 0
-Numbered (ok a end) = Unit
-Numbered (refused k) = WalkNumber k
+nine : WalkNumber 9
+nine = (omega arith, omega arith)
 
-numbered-needed : {A : Type 0} (b : Bool) (r : Parsed A) → Numbered r → Numbered (cond b (refused 9) r)
-unfolding Numbered
-numbered-needed true r h = (omega arith, omega arith)
-numbered-needed false r h = h
-
-numbered-map : {A B : Type 0} (f : A → B) (r : Parsed A) → Numbered r → Numbered (mapParsed f r)
-unfolding Numbered mapParsed
-numbered-map f (ok a end) h = tt
-numbered-map f (refused k) h = h
-
-numbered-read : {A : Type 0} (b : Bool) (a : A) (end : ℕ) → Numbered (cond b (refused 9) (ok a end))
-unfolding Numbered
-numbered-read b a end = numbered-needed b (ok a end) tt
-
-numbered-coordinates : (h : WkbHeader) (s : List ℕ) (n at : ℕ) → Numbered (coordinatesAt h s n at)
-unfolding coordinatesAt
-numbered-coordinates h s n at = numbered-read (ltb (length s) (at + n * stride h)) (coordinatesFrom h s n at) (at + n * stride h)
-
-numbered-line : (h : WkbHeader) (s : List ℕ) (at : ℕ) → Numbered (lineAt h s at)
-unfolding lineAt
-numbered-line h s at = numbered-needed (ltb (length s) (at + 4)) (coordinatesAt h s (u32At (h .little) s at) (at + 4)) (numbered-coordinates h s (u32At (h .little) s at) (at + 4))
-
-numbered-point : (h : WkbHeader) (s : List ℕ) (at : ℕ) → Numbered (pointAt h s at)
-unfolding pointAt
-numbered-point h s at = numbered-read (ltb (length s) (at + stride h)) (coordinateAt h s at) (at + stride h)
-
-module _ {A B : Type 0} (cons : A → B → B) (nil : B) (f : ℕ → Parsed A) (each : (at : ℕ) → Numbered (f at)) where
-  numbered-times : (n at : ℕ) → Numbered (times cons nil f n at)
-  unfolding times Numbered
-  numbered-times zero at = tt
-  numbered-times (suc n) at = go (numbered-times n) (f at) (each at)
-    where
-      join : (a : A) (r : Parsed B) → Numbered r → Numbered (consParsed cons a r)
-      join a (ok b end) h = tt
-      join a (refused k) h = h
-
-      go : ((i : ℕ) → Numbered (times cons nil f n i)) → (r : Parsed A) → Numbered r → Numbered (andThen cons r (times cons nil f n))
-      go rest (ok a next) h = join a (times cons nil f n next) (rest next)
-      go rest (refused k) h = h
-
-  numbered-list : (little : Bool) (s : List ℕ) (at : ℕ) → Numbered (listAt cons nil f little s at)
-  unfolding listAt
-  numbered-list little s at = numbered-needed (ltb (length s) (at + 4)) (times cons nil f (u32At little s at) (at + 4)) (numbered-times (u32At little s at) (at + 4))
-
-numbered-content : (c : Class) (f : ℕ → Parsed Geometry) (each : (at : ℕ) → Numbered (f at)) (s : List ℕ) (h : WkbHeader) → Numbered (contentOf c f s h)
+numbered-content : (c : Class) (f : ℕ → Parsed Geometry) (each : (at : ℕ) → Numbered WalkNumber (f at)) (s : List ℕ) (h : WkbHeader) → Numbered WalkNumber (contentOf c f s h)
 unfolding contentOf Numbered
-numbered-content pointClass f each s h = numbered-map point (pointAt h s (h .body)) (numbered-point h s (h .body))
-numbered-content lineClass f each s h = numbered-map line (lineAt h s (h .body)) (numbered-line h s (h .body))
-numbered-content polygonClass f each s h = numbered-map rings (ringsAt h s (h .body)) (numbered-list _∷_ [] (lineAt h s) (numbered-line h s) (h .little) s (h .body))
-numbered-content collectionClass f each s h = numbered-map members (membersAt f (h .little) s (h .body)) (numbered-list walk.more walk.none f each (h .little) s (h .body))
+numbered-content pointClass f each s h = numbered-map WalkNumber point (pointAt h s (h .body)) (numbered-point WalkNumber nine h s (h .body))
+numbered-content lineClass f each s h = numbered-map WalkNumber line (lineAt h s (h .body)) (numbered-line WalkNumber nine h s (h .body))
+numbered-content polygonClass f each s h = numbered-map WalkNumber rings (ringsAt h s (h .body)) (numbered-list WalkNumber nine _∷_ [] (lineAt h s) (numbered-line WalkNumber nine h s) (h .little) s (h .body))
+numbered-content collectionClass f each s h = numbered-map WalkNumber members (membersAt f (h .little) s (h .body)) (numbered-list WalkNumber nine walk.more walk.none f each (h .little) s (h .body))
 numbered-content unknownClass f each s h = (omega arith, omega arith)
 
-HeaderNumbered : ParsedHeader → Type 0
-HeaderNumbered (header.Read h) = Unit
-HeaderNumbered (header.Refused k) = WalkNumber k
-
-header-tests : (a b c d : Bool) (g h : WkbHeader) → HeaderNumbered (cond a (header.Refused 9) (cond b (header.Refused 10) (cond c (cond d (header.Refused 9) (header.Read g)) (header.Read h))))
-unfolding HeaderNumbered
-header-tests true b c d g h = (omega arith, omega arith)
-header-tests false true c d g h = (omega arith, omega arith)
-header-tests false false true true g h = (omega arith, omega arith)
-header-tests false false true false g h = tt
-header-tests false false false d g h = tt
-
-numbered-header : (s : List ℕ) (at : ℕ) → HeaderNumbered (headerAt s at)
-unfolding headerAt headerOfType
-numbered-header s at =
-    let little = eqb (getD s at 0) 1 in
-    let code = u32At little s (at + 1) in
-    header-tests (ltb (length s) (at + 5)) (ltb 1 (getD s at 0)) (hasFlag 0x20000000 code) (ltb (length s) (at + 9)) (headerOf little code (at + 9)) (headerOf little code (at + 5))
-
-numbered-geometry : (f : ℕ → Parsed Geometry) (each : (at : ℕ) → Numbered (f at)) (s : List ℕ) (r : ParsedHeader) → HeaderNumbered r → Numbered (geometryFrom f s r)
+numbered-geometry : (f : ℕ → Parsed Geometry) (each : (at : ℕ) → Numbered WalkNumber (f at)) (s : List ℕ) (r : ParsedHeader) → HeaderNumbered WalkNumber r → Numbered WalkNumber (geometryFrom f s r)
 unfolding geometryFrom HeaderNumbered Numbered
 numbered-geometry f each s (header.Refused k) h = h
-numbered-geometry f each s (header.Read g) h = numbered-map (geometry (g .kind) (g .z) (g .m)) (contentOf (classOf (g .kind)) f s g) (numbered-content (classOf (g .kind)) f each s g)
+numbered-geometry f each s (header.Read g) h = numbered-map WalkNumber (geometry (g .kind) (g .z) (g .m)) (contentOf (classOf (g .kind)) f s g) (numbered-content (classOf (g .kind)) f each s g)
 
-numbered-walk : (levels : ℕ) (s : List ℕ) (at : ℕ) → Numbered (walkOf levels s at)
+numbered-walk : (levels : ℕ) (s : List ℕ) (at : ℕ) → Numbered WalkNumber (walkOf levels s at)
 unfolding walkOf Numbered
 numbered-walk zero s at = (omega arith, omega arith)
-numbered-walk (suc levels) s at = numbered-geometry (walkOf levels s) (numbered-walk levels s) s (headerAt s at) (numbered-header s at)
+numbered-walk (suc levels) s at = numbered-geometry (walkOf levels s) (numbered-walk levels s) s (headerAt s at) (numbered-header WalkNumber nine (omega arith, omega arith) s at)
 
 pub walk-number : (levels : ℕ) (s : List ℕ) (at k : ℕ) → walkOf levels s at ≡ refused k → WalkNumber k
 unfolding Numbered
-walk-number levels s at k e = subst Numbered e (numbered-walk levels s at)
+walk-number levels s at k e = subst (Numbered WalkNumber) e (numbered-walk levels s at)
 
 -- each check holds exactly when the walk refuses with its number
 pub refused-with-exactly : (k : ℕ) (w : Parsed Geometry) → (refusedWith k w ≡ true) ↔ (w ≡ refused k)

@@ -3,8 +3,9 @@ use fields::u32_at;
 ghost use mathlib.Core.Path.{_≡_};
 ghost use Prim.Native.Nat.{_+_};
 ghost use lib.Dec.{ltb};
-ghost use Rattle.coords.specs.Walk.{zOf, mOf, headerAt, strideOf, allLevels, walkOf};
-ghost use Rattle.coords.specs.Inner.{coordinatesRuns, lineRuns, ringsAtRuns, membersAtRuns};
+ghost use Rattle.coords.specs.Walk.{mapParsed, zOf, mOf, headerAt, strideOf, ringsAt, allLevels, walkOf};
+ghost use Rattle.coords.specs.Inner.{coordinatesRuns, lineRuns, membersAtRuns};
+ghost use Rattle.coords.specs.Parts.{ringsRuns};
 ghost use Rattle.coords.specs.Counts.{runCounts, countsOf};
 
 // What the header of a geometry says; its content starts at body.
@@ -155,8 +156,8 @@ fn count_line(s: &[u8], h: WkbHeader, at: usize) -> Counts
 }
 
 // A count of rings, and as many rings.
-fn count_rings(s: &[u8], h: WkbHeader, at: usize) -> Counts
-    ensures { λ r. ⌜ r ≡ runCounts (ringsAtRuns h (now (s .entry)) at) ⌝ }
+pub fn count_rings(s: &[u8], h: WkbHeader, at: usize) -> Counts
+    ensures { λ r. ⌜ r ≡ runCounts (mapParsed (ringsRuns (h .kind)) (ringsAt h (now (s .entry)) at)) ⌝ }
 {
     if is_short(s.len(), at, 4) {
         return Counts::Refused(9);

@@ -1,0 +1,86 @@
+-- Folds that skip, over joined lists and over steps that change nothing; the sweep, list after list. Assumes nothing.
+use mathlib.Core.Path.{_≡_, refl, sym, ap, _∙_}
+use mathlib.Core.Bool.{Bool, true, false, _&&_, cond, false≢true}
+use mathlib.Core.List.{List, [], _∷_, _++_, foldl, foldl-append}
+use mathlib.Core.Option.{Option, none, some}
+use lib.Ieee.{lt, eq}
+use Rattle.ieee754.specs.MinMax.{positiveZero}
+use Rattle.coords.specs.Parts.{Run}
+use Rattle.primitives.specs.declared.Point.{Point}
+use Rattle.primitives.specs.declared.Witness.{Witness}
+use Rattle.primitives.specs.declared.Aabb.{Aabb}
+use Rattle.primitives.specs.Boxes.{leastSquaredGap}
+use Rattle.extremes.specs.Sweeps.{skipping, shorter}
+use Rattle.extremes.proofs.Lists.{Each, each-weaken}
+use Rattle.extremes.proofs.Taking.{unbeaten-row}
+use Rattle.items.specs.Items.{Item, itemsOf, boxOfItem}
+use Rattle.items.specs.Inner.{classItems}
+use Rattle.items.specs.declared.Class.the-variants.{Points, Segments, Triangles}
+use Rattle.items.specs.Candidates.{candidatesOf}
+use Rattle.items.proofs.NotBelowZero.{Distant, candidates-not-below}
+use Rattle.closest.specs.Closest.{uniteItem, boxOfItems, noCloser, withItem, withEach, sweepOf}
+use Rattle.closest.specs.Inner.{atZero}
+
+module _ {S X : Type 0} (skip : S → X → Bool) (step : S → X → S) where
+  skipping-append : (s : S) (l m : List X) → skipping skip step (skipping skip step s l) m ≡ skipping skip step s (l ++ m)
+  unfolding skipping
+  skipping-append s [] m = refl
+  skipping-append s (x ∷ l) m = skipping-append (cond (skip s x) s (step s x)) l m
+
+  kept : (b : Bool) (s t : S) → t ≡ s → cond b s t ≡ s
+  kept true s t e = refl
+  kept false s t e = e
+
+  skipping-stays : (s : S) → ((x : X) → step s x ≡ s) → (l : List X) → skipping skip step s l ≡ s
+  unfolding skipping
+  skipping-stays s f [] = refl
+  skipping-stays s f (x ∷ l) = ap (λ (t : S). skipping skip step t l) (kept (skip s x) s (step s x) (f x)) ∙ skipping-stays s f l
+
+pub and-true : (a b : Bool) → (a && b) ≡ true → b ≡ true
+and-true true b e = e
+and-true false b e = absurd (false≢true e)
+
+pub each-append : (a : Item) (s : Option Witness) (l m : List Item) → withEach a (withEach a s l) m ≡ withEach a s (l ++ m)
+unfolding withEach
+each-append a s l m = skipping-append _ _ s l m
+
+pub sweep-append : (all : Aabb) (rs : List Item) (s : Option Witness) (l m : List Item) → sweepOf all rs (sweepOf all rs s l) m ≡ sweepOf all rs s (l ++ m)
+unfolding sweepOf
+sweep-append all rs s l m = skipping-append _ _ s l m
+
+pub unite-append : (s : Option Aabb) (l m : List Item) → foldl uniteItem (foldl uniteItem s l) m ≡ foldl uniteItem s (l ++ m)
+unite-append s l m = sym (foldl-append uniteItem s l m)
+
+pub box-of-classes : (rs : List (Run Point))
+    → foldl uniteItem (foldl uniteItem (foldl uniteItem none (classItems Points rs)) (classItems Segments rs)) (classItems Triangles rs) ≡ boxOfItems (itemsOf rs)
+unfolding boxOfItems itemsOf
+box-of-classes rs =
+    unite-append (foldl uniteItem none (classItems Points rs)) (classItems Segments rs) (classItems Triangles rs)
+    ∙ unite-append none (classItems Points rs) (classItems Segments rs ++ classItems Triangles rs)
+
+-- one item, and those after it
+pub each-next : (a b : Item) (box : Aabb) (s t : Option Witness) → box ≡ boxOfItem a → t ≡ cond (noCloser s (leastSquaredGap box (boxOfItem b))) s (withItem a s b)
+    → (l : List Item) → withEach a t l ≡ withEach a s (b ∷ l)
+unfolding withEach skipping
+each-next a b box s t e d l = rw (d, e)
+
+pub sweep-next : (all : Aabb) (rs : List Item) (a : Item) (s t : Option Witness) → t ≡ cond (noCloser s (leastSquaredGap (boxOfItem a) all)) s (withEach a s rs)
+    → (l : List Item) → sweepOf all rs t l ≡ sweepOf all rs s (a ∷ l)
+unfolding sweepOf skipping
+sweep-next all rs a s t d l = rw d
+
+-- ---- a best of distance 0 is never replaced
+item-at-zero : (a b : Item) (s : Option Witness) → atZero s ≡ true → withItem a s b ≡ s
+unfolding withItem
+item-at-zero a b none z = absurd (false≢true (unfold atZero in z))
+item-at-zero a b (some best) z =
+    unbeaten-row shorter (λ w. w) (some best) (candidatesOf a b)
+    (each-weaken Distant (λ (w : Witness). lt (w .d) (best .d) ≡ false) (λ w h. h .distance (best .d) (unfold atZero in z)) (candidatesOf a b) (candidates-not-below a b))
+
+pub each-at-zero : (a : Item) (s : Option Witness) → atZero s ≡ true → (rs : List Item) → withEach a s rs ≡ s
+unfolding withEach
+each-at-zero a s z rs = skipping-stays _ (withItem a) s (λ b. item-at-zero a b s z) rs
+
+pub sweep-at-zero : (all : Aabb) (rs : List Item) (s : Option Witness) → atZero s ≡ true → (ls : List Item) → sweepOf all rs s ls ≡ s
+unfolding sweepOf
+sweep-at-zero all rs s z ls = skipping-stays _ (λ t a. withEach a t rs) s (λ a. each-at-zero a s z rs) ls

@@ -1,0 +1,4 @@
+-- The laws of the closest sweep.
+pub mod Folds
+pub mod NoneExactly
+pub mod PointsOnly

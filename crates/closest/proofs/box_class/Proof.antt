@@ -1,0 +1,92 @@
+-- `closest::box_class` meets its contract. The invariant: the items of the runs left, united with the box so far, give the whole; the floats hold those runs. Assumes nothing.
+use mathlib.Core.List.{foldl}
+use mathlib.Core.Logic.{⊎-elim}
+use mathlib.Core.Path.{_≡_, refl, sym, ap, _∙_}
+use Prim.Native.Nat.{_+_, _-_, _*_, _<_, _≤_}
+use native.Mathlib.Omega.{arith}
+use borrow.Author.Needs.{needs}
+use lib.ListN.{length, drop}
+use Rattle.workspace.specs.Workspace.{floatsPerCoordinate, numbersPerRun}
+use Rattle.parts.proofs.Turns.{count-next}
+use Rattle.parts.specs.Stored.{runsFrom, storedRuns, runCount, pointCount, Laid}
+use Rattle.items.proofs.Turns.{turn-run, pass-run, no-items}
+use Rattle.items.specs.Inner.{classItems}
+use Rattle.closest.specs.Closest.{uniteItem}
+use Rattle.closest.specs.Inner.{boundsOf}
+use Rattle.closest.proofs.Folds.{unite-append}
+use Rattle.closest.proofs.box_class.Statement.{statement}
+use Rattle.closest.proofs.box_class.Tie as tie
+
+abbrev Inv-loop : tie.InvT-loop
+Inv-loop class floats table seen₀ count at₀ r₀ seen at r = (r ≤ runCount table)
+    × (floatsPerCoordinate * (at + pointCount (drop (numbersPerRun * r) table)) ≤ length floats)
+    × (foldl uniteItem (boundsOf seen) (classItems class (runsFrom floats at (drop (numbersPerRun * r) table))) ≡ foldl uniteItem (boundsOf seen₀) (classItems class (storedRuns table floats)))
+
+abbrev μ-loop : tie.MeasureT-loop
+μ-loop class floats table seen₀ count at₀ r₀ seen at r = runCount table - r
+
+run-count-requires : tie.Need-run-count-requires Inv-loop μ-loop
+run-count-requires c κs = search needs
+
+loop-holds : tie.Need-loop-holds Inv-loop μ-loop
+unfolding storedRuns Laid
+loop-holds c = (omega arith, omega (arith, c .before .before .before .pre), refl)
+
+count-at-requires : tie.Need-count-at-requires Inv-loop μ-loop
+count-at-requires c κs = omega (arith, c .before .before .run-count .ensures)
+
+kind-at-requires : tie.Need-kind-at-requires Inv-loop μ-loop
+kind-at-requires c κs = omega (arith, c .before .before .before .run-count .ensures)
+
+is-of-class-requires : tie.Need-is-of-class-requires Inv-loop μ-loop
+is-of-class-requires c κs = search needs
+
+box-run-requires : tie.Need-box-run-requires Inv-loop μ-loop
+box-run-requires c κs = let h : c .before .before .before .before .before .loop .r < runCount (c .before .before .before .before .before .before .before .before .before .args .table .now) = omega (arith, c .before .before .before .before .before .before .run-count .ensures) in
+    omega (arith, count-next (c .before .before .before .before .before .before .before .before .before .args .table .now) (c .before .before .before .before .before .loop .r) h, c .before .before .before .count-at .ensures)
+
+add-at : tie.Need-add-at Inv-loop μ-loop
+add-at c = let h : c .before .before .before .before .before .loop .r < runCount (c .before .before .before .before .before .before .before .before .before .args .table .now) = omega (arith, c .before .before .before .before .before .before .run-count .ensures) in
+    omega (arith, count-next (c .before .before .before .before .before .before .before .before .before .args .table .now) (c .before .before .before .before .before .loop .r) h, c .before .before .before .count-at .ensures)
+
+add-r : tie.Need-add-r Inv-loop μ-loop
+add-r c = omega (arith, c .before .before .before .before .before .before .run-count .ensures)
+
+loop-less : tie.Need-loop-less Inv-loop μ-loop
+loop-less c = omega (arith, c .before .before .before .before .before .before .run-count .ensures)
+
+loop-again : tie.Need-loop-again Inv-loop μ-loop
+loop-again c = let args = c .before .before .before .before .before .before .before .before .before .args in
+    let loop = c .before .before .before .before .before .loop in
+    let h : loop .r < runCount (args .table .now) = omega (arith, c .before .before .before .before .before .before .run-count .ensures) in (
+      omega arith,
+      omega (arith, count-next (args .table .now) (loop .r) h, c .before .before .before .count-at .ensures),
+      ⊎-elim
+          (λ w. turn-run (args .class) (args .floats .now) (args .table .now) (loop .at) (loop .r) h _ _ _ (c .before .before .before .count-at .ensures) (c .before .before .kind-at .ensures) (c .before .is-of-class .ensures) (foldl uniteItem) unite-append (w .0 .taken) (ap boundsOf (w .2) ∙ w .1 .ensures) ∙ loop .inv .2)
+          (λ w. pass-run (args .class) (args .floats .now) (args .table .now) (loop .at) (loop .r) h _ _ _ (c .before .before .before .count-at .ensures) (c .before .before .kind-at .ensures) (c .before .is-of-class .ensures) (foldl uniteItem) (w .0 .left) (ap boundsOf (w .1)) ∙ loop .inv .2)
+          (c .if1 .came),
+    )
+
+returns : tie.Need-returns Inv-loop μ-loop
+returns c = let args = c .before .before .before .before .before .args in
+    let loop = c .before .loop in
+    let h : runCount (args .table .now) ≤ loop .r = omega (arith, c .before .before .run-count .ensures) in
+    sym (ap (foldl uniteItem _) (no-items (args .class) (args .floats .now) (loop .at) (args .table .now) (loop .r) h)) ∙ loop .inv .2
+
+pub box-class-spec : {M : Type 1} → statement M
+box-class-spec =
+    tie.close
+    (tie.spec
+    Inv-loop
+    μ-loop
+    run-count-requires
+    loop-holds
+    count-at-requires
+    kind-at-requires
+    is-of-class-requires
+    box-run-requires
+    add-at
+    add-r
+    loop-less
+    loop-again
+    returns)

@@ -1,0 +1,16 @@
+-- `closest::no_closer` meets its contract. Assumes nothing.
+use lib.Ieee.{ofBits}
+use Rattle.closest.specs.Closest.{noCloser}
+use Rattle.closest.proofs.no_closer.Statement.{statement}
+use Rattle.closest.proofs.no_closer.Tie as tie
+
+returns : tie.Need-returns
+unfolding noCloser ofBits
+returns c = rw (c .if1 .taken)
+
+returns-2 : tie.Need-returns-2
+unfolding noCloser
+returns-2 c = rw (c .if1 .left)
+
+pub no-closer-spec : {M : Type 1} → statement M
+no-closer-spec = tie.close (tie.spec returns returns-2)

@@ -1,0 +1,25 @@
+-- `closest::sweep` meets its contract. Assumes nothing.
+use mathlib.Core.Path.{_∙_}
+use borrow.Author.Needs.{needs}
+use Rattle.items.specs.Items.{itemsOf}
+use Rattle.closest.proofs.Folds.{sweep-append}
+use Rattle.closest.proofs.sweep.Statement.{statement}
+use Rattle.closest.proofs.sweep.Tie as tie
+
+from-class-requires : tie.Need-from-class-requires
+from-class-requires c κs = search needs
+
+from-class-requires-2 : tie.Need-from-class-requires-2
+from-class-requires-2 c κs = search needs
+
+from-class-requires-3 : tie.Need-from-class-requires-3
+from-class-requires-3 c κs = search needs
+
+returns : tie.Need-returns
+unfolding itemsOf
+returns c = rw (c .from-class3 .ensures, c .before .from-class2 .ensures, c .before .before .from-class .ensures)
+    (sweep-append _ _ _ _ _ ∙ sweep-append _ _ _ _ _)
+
+pub sweep-spec : {M : Type 1} → statement M
+sweep-spec =
+    tie.close (tie.spec from-class-requires from-class-requires-2 from-class-requires-3 returns)

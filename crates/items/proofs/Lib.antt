@@ -1,0 +1,5 @@
+-- The laws of the items.
+pub mod Laws
+pub mod Turns
+pub mod NotBelowZero
+pub mod PointRuns

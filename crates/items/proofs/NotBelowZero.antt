@@ -1,0 +1,168 @@
+-- The distance of a candidate is a root or +infinity, so it is never below 0. Assumes nothing.
+use mathlib.Core.Path.{_≡_, refl, sym, _∙_}
+use mathlib.Core.Bool.{Bool, true, false, _&&_, cond, false≢true}
+use mathlib.Core.List.{List, [], _∷_}
+use Prim.Native.Nat.{ℕ, zero, suc, _+_, _*_}
+use native.Mathlib.Nat.{zero-mul, mul-one}
+use native.Mathlib.Omega.{arith}
+use borrow.Author.Tests.{eqb-true, le-ltb}
+use lib.IntN.{ℤ}
+use lib.Dec.{T, ltb, eqb}
+use lib.Ieee.{Float, nan, inf, fin, binary64, up, down, lt, le, eq, fits}
+use Rattle.ieee754.specs.MinMax.{positiveZero}
+use Rattle.ieee754.specs.Root.{rootOf}
+use Rattle.ieee754.proofs.SignClear.{signClear}
+use Rattle.ieee754.proofs.RootLaws.{root-sign-clear}
+use Rattle.ieee754.proofs.SumsAndSquares.{sum-of-squares-fits}
+use Rattle.primitives.specs.declared.Point.{Point}
+use Rattle.primitives.specs.declared.Witness.{Witness}
+use Rattle.primitives.specs.Vectors.{squaredDistance, dotOf}
+use Rattle.primitives.specs.Witnesses.{witnessOf, betweenOf, smallerOf, flippedOf}
+use Rattle.measures.specs.Measures.{epsilon, pointSegment, atParameters, longSegments, segmentSegment, normalOf, footOf, footInside, pointEdges, pointTriangle, closerOf, segmentEdges, infinitelyFar, edgePairs, firstVertices, secondVertices, triangleTriangle}
+use Rattle.extremes.proofs.Lists.{Each}
+use Rattle.items.specs.Items.{Item, point, segment, triangle}
+use Rattle.items.specs.Candidates.{candidatesOf}
+
+-- not less than +0 or -0
+abbrev pub NotBelow : Float → Type 0
+NotBelow x = (z : Float) → eq z positiveZero ≡ true → lt x z ≡ false
+
+-- ---- floats
+both-left : (a b : Bool) → (a && b) ≡ true → a ≡ true
+both-left true b e = refl
+both-left false b e = absurd (false≢true e)
+
+zero-value : (t : Bool) (n : ℕ) (d : ℤ) → eq (fin t n d) positiveZero ≡ true → n * up d ≡ 0
+unfolding eq
+zero-value t n d e = sym (mul-one (n * up d)) ∙ eqb-true _ _ (both-left _ _ e) ∙ zero-mul (down d)
+
+none-below : (a b k : ℕ) → b ≡ 0 → ltb a (b * k) ≡ false
+none-below a b k e = rw e (rw (zero-mul k) (le-ltb a 0 (omega arith)))
+
+clear-not-below : (x : Float) → T (signClear x) → NotBelow x
+clear-not-below (inf false) c nan e = unfold lt in refl
+clear-not-below (inf false) c (inf t) e = unfold lt in refl
+clear-not-below (inf false) c (fin t n d) e = unfold lt in refl
+clear-not-below (fin false m k) c nan e = unfold lt in refl
+clear-not-below (fin false m k) c (inf t) e = absurd (false≢true (unfold eq in e))
+clear-not-below (fin false m k) c (fin true n d) e = unfold lt in refl
+clear-not-below (fin false m k) c (fin false n d) e = unfold lt in none-below (m * up k * down d) (n * up d) (down k) (zero-value false n d e)
+
+nan-not-below : NotBelow nan
+unfolding lt
+nan-not-below z e = refl
+
+negative-zero-not-below : (k : ℤ) → NotBelow (fin true 0 k)
+negative-zero-not-below k nan e = unfold lt in refl
+negative-zero-not-below k (inf t) e = absurd (false≢true (unfold eq in e))
+negative-zero-not-below k (fin true n d) e = unfold lt in rw (zero-mul (up k)) (none-below (n * up d * down k) 0 (down d) refl)
+negative-zero-not-below k (fin false n d) e = unfold lt in rw (zero-mul (up k), zero-mul (down d), zero-value false n d e, zero-mul (down k))
+
+root-not-below : (x : Float) → T (fits binary64 x) → NotBelow (rootOf x)
+root-not-below nan f = unfold rootOf in nan-not-below
+root-not-below (inf true) f = unfold rootOf in nan-not-below
+root-not-below (inf false) f = clear-not-below (rootOf (inf false)) (root-sign-clear (inf false) tt f)
+root-not-below (fin true zero e) f = unfold rootOf in negative-zero-not-below e
+root-not-below (fin true (suc m) e) f = unfold rootOf in nan-not-below
+root-not-below (fin false m e) f = clear-not-below (rootOf (fin false m e)) (root-sign-clear (fin false m e) tt f)
+
+-- ---- witnesses
+-- a witness whose distance is not below 0
+pub record Distant (w : Witness) : Type 0 where
+  pub distance : NotBelow (w .d)
+
+either : (b : Bool) (w v : Witness) → Distant w → Distant v → Distant (cond b w v)
+either true w v p q = p
+either false w v p q = q
+
+smaller : (w v : Witness) → Distant w → Distant v → Distant (smallerOf w v)
+unfolding smallerOf
+smaller w v p q = either (lt (v .d) (w .d)) v w q p
+
+closer : (w v : Witness) → Distant w → Distant v → Distant (closerOf w v)
+unfolding closerOf
+closer w v p q = either (eq (w .d) positiveZero) w (smallerOf w v) p (smaller w v p q)
+
+flipped : (w : Witness) → Distant w → Distant (flippedOf w)
+unfolding flippedOf witnessOf
+flipped w p = record { distance = p .distance }
+
+between : (a b : Point) → Distant (betweenOf a b)
+unfolding betweenOf witnessOf
+between a b = record { distance = root-not-below (squaredDistance a b) (unfold squaredDistance dotOf in sum-of-squares-fits _ _ _) }
+
+infinite : (a b : Point) → Distant (infinitelyFar a b)
+unfolding infinitelyFar witnessOf
+infinite a b = record { distance = clear-not-below (inf false) tt }
+
+-- ---- measures
+point-segment : (p a b : Point) → Distant (pointSegment p a b)
+unfolding pointSegment
+point-segment p a b = between _ _
+
+long-segments : (p q u v : Point) → Distant (longSegments p q u v)
+unfolding longSegments atParameters
+long-segments p q u v = between _ _
+
+segment-segment : (p q u v : Point) → Distant (segmentSegment p q u v)
+unfolding segmentSegment
+segment-segment p q u v =
+    either (le (squaredDistance q p) epsilon) _ _
+    (either (le (squaredDistance v u) epsilon) _ _ (between p u) (point-segment p u v))
+    (either (le (squaredDistance v u) epsilon) _ _ (flipped _ (point-segment u p q)) (long-segments p q u v))
+
+point-triangle : (p a b c : Point) → Distant (pointTriangle p a b c)
+unfolding pointTriangle pointEdges
+point-triangle p a b c =
+    either (footInside p a b c (normalOf a b c)) _ _ (between p (footOf p a (normalOf a b c)))
+    (smaller _ _ (smaller _ _ (point-segment p a b) (point-segment p b c)) (point-segment p c a))
+
+segment-edges : (w : Witness) (p q a b c : Point) → Distant w → Distant (segmentEdges w p q a b c)
+unfolding segmentEdges
+segment-edges w p q a b c h =
+    closer _ _ (closer _ _ (closer _ _ h (segment-segment p q a b)) (segment-segment p q b c)) (segment-segment p q c a)
+
+edge-pairs : (a b c d e f : Point) → Distant (edgePairs a b c d e f)
+unfolding edgePairs
+edge-pairs a b c d e f =
+    segment-edges _ c a d e f (segment-edges _ b c d e f (segment-edges _ a b d e f (infinite a d)))
+
+first-vertices : (w : Witness) (a b c d e f : Point) → Distant w → Distant (firstVertices w a b c d e f)
+unfolding firstVertices
+first-vertices w a b c d e f h =
+    smaller _ _ (smaller _ _ (smaller _ _ h (point-triangle a d e f)) (point-triangle b d e f)) (point-triangle c d e f)
+
+second-vertices : (w : Witness) (a b c d e f : Point) → Distant w → Distant (secondVertices w a b c d e f)
+unfolding secondVertices
+second-vertices w a b c d e f h =
+    smaller _ _
+    (smaller _ _ (smaller _ _ h (flipped _ (point-triangle d a b c))) (flipped _ (point-triangle e a b c)))
+    (flipped _ (point-triangle f a b c))
+
+triangle-triangle : (a b c d e f : Point) → Distant (triangleTriangle a b c d e f)
+unfolding triangleTriangle
+triangle-triangle a b c d e f =
+    either (eq (edgePairs a b c d e f .d) positiveZero) _ _ (edge-pairs a b c d e f)
+    (second-vertices _ a b c d e f (first-vertices _ a b c d e f (edge-pairs a b c d e f)))
+
+-- ---- candidates
+pub candidates-not-below : (i j : Item) → Each Distant (candidatesOf i j)
+unfolding candidatesOf
+candidates-not-below (point p) (point q) = (between p q, tt)
+candidates-not-below (point p) (segment s e) = (point-segment p s e, tt)
+candidates-not-below (point p) (triangle a b c) = (point-triangle p a b c, tt)
+candidates-not-below (segment s e) (point q) = (flipped _ (point-segment q s e), tt)
+candidates-not-below (segment s e) (segment u v) = (segment-segment s e u v, tt)
+candidates-not-below (segment s e) (triangle a b c) = (
+  point-triangle s a b c,
+  (point-triangle e a b c, (segment-segment s e a b, (segment-segment s e b c, (segment-segment s e c a, tt)))),
+)
+candidates-not-below (triangle a b c) (point q) = (flipped _ (point-triangle q a b c), tt)
+candidates-not-below (triangle a b c) (segment s e) = (
+  flipped _ (point-triangle s a b c),
+  (
+    flipped _ (point-triangle e a b c),
+    (segment-segment a b s e, (segment-segment b c s e, (segment-segment c a s e, tt))),
+  ),
+)
+candidates-not-below (triangle a b c) (triangle d e f) = (triangle-triangle a b c d e f, tt)

@@ -1,0 +1,67 @@
+-- What the closest sweep pairs off: points, segments and triangles (document 01, Parts, Pair measures, Closest sweep). Definitions only.
+use Prim.Native.Nat.{ℕ}
+use mathlib.Core.Path.{_≡_}
+use mathlib.Core.Bool.{Bool, true, cond}
+use mathlib.Core.List.{List, [], _∷_, _++_, map}
+use Rattle.coords.specs.Parts.{Run, run, isPoint, isLine, isFace}
+use Rattle.primitives.specs.declared.Point.{Point}
+use Rattle.primitives.specs.declared.Aabb.{Aabb}
+use Rattle.primitives.specs.Boxes.{boxOfPoint, unionOf}
+
+pub data Item : Type 0 where
+  point : Point → Item
+  segment : Point → Point → Item
+  triangle : Point → Point → Point → Item
+
+-- ---- the items of a run (document 01, Parts)
+
+-- a point run gives points
+unfoldable pub pointsOf : List Point → List Item
+pointsOf ps = map point ps
+
+-- the segments of a line that starts at a
+unfoldable pub segmentsFrom : Point → List Point → List Item
+segmentsFrom a [] = []
+segmentsFrom a (b ∷ ps) = segment a b ∷ segmentsFrom b ps
+
+-- a line run of n gives n - 1 segments; one of 1 gives nothing
+unfoldable pub segmentsOf : List Point → List Item
+segmentsOf [] = []
+segmentsOf (a ∷ ps) = segmentsFrom a ps
+
+-- the triangles of a fan from a whose next edge starts at b
+unfoldable pub fanFrom : Point → Point → List Point → List Item
+fanFrom a b [] = []
+fanFrom a b (c ∷ ps) = triangle a b c ∷ fanFrom a c ps
+
+-- a face fans from its first vertex; under 3 vertices there is no triangle (document 01, Pair measures)
+unfoldable pub trianglesOf : List Point → List Item
+trianglesOf [] = []
+trianglesOf (a ∷ []) = []
+trianglesOf (a ∷ b ∷ ps) = fanFrom a b ps
+
+-- ---- the items of all runs (document 01, Closest sweep)
+
+-- the items of each run whose kind passes the test, in walk order
+unfoldable pub itemsOfKind : (ℕ → Bool) → (List Point → List Item) → List (Run Point) → List Item
+itemsOfKind test items [] = []
+itemsOfKind test items (run kind ps ∷ rs) = cond (test kind) (items ps) [] ++ itemsOfKind test items rs
+
+-- points, segments, triangles
+unfoldable pub itemsOf : List (Run Point) → List Item
+itemsOf rs = itemsOfKind isPoint pointsOf rs ++ (itemsOfKind isLine segmentsOf rs ++ itemsOfKind isFace trianglesOf rs)
+
+-- ---- boxes
+
+-- the box of an item (Rust: Boxed::new)
+unfoldable pub boxOfItem : Item → Aabb
+boxOfItem (point p) = boxOfPoint p
+boxOfItem (segment a b) = unionOf (boxOfPoint a) (boxOfPoint b)
+boxOfItem (triangle a b c) = unionOf (unionOf (boxOfPoint a) (boxOfPoint b)) (boxOfPoint c)
+
+-- ---- point runs only (document 01, Words of the third property)
+
+-- no run is a line or ring
+unfoldable pub PointRuns : {A : Type 0} → List (Run A) → Type 0
+PointRuns [] = Unit {0}
+PointRuns (run kind cs ∷ rs) = (isPoint kind ≡ true) × PointRuns rs

@@ -1,0 +1,53 @@
+-- `surface::scan_patch` meets its contract. Assumes nothing.
+use Rattle.coords.specs.Parts.{ringsRuns}
+use mathlib.Core.Path.{sym}
+use Rattle.surface.proofs.Scans.{counted-refused, counted-ends}
+use Rattle.surface.specs.Inner.{endOf}
+use Rattle.surface.specs.Patches.{patchAt, patchFrom}
+use borrow.Author.Needs.{needs}
+use Rattle.surface.proofs.scan_patch.Statement.{statement}
+use Rattle.surface.proofs.scan_patch.Tie as tie
+
+read-header-requires : tie.Need-read-header-requires
+read-header-requires c κs = search needs
+
+enum-known-k : tie.Need-enum-known-k
+enum-known-k c = search needs
+
+enum-known-h : tie.Need-enum-known-h
+enum-known-h c = search needs
+
+count-rings-requires : tie.Need-count-rings-requires
+count-rings-requires c κs = search needs
+
+enum-known-k-2 : tie.Need-enum-known-k-2
+enum-known-k-2 c = search needs
+
+enum-known-coords : tie.Need-enum-known-coords
+enum-known-coords c = search needs
+
+returns : tie.Need-returns
+unfolding patchAt patchFrom endOf
+returns c = rw (← (c .before .before .before .read-header .ensures), (c .before .k .given) .1)
+
+returns-2 : tie.Need-returns-2
+unfolding patchAt patchFrom
+returns-2 c = rw (← (c .before .before .before .before .before .before .before .read-header .ensures), (c .before .before .before .before .before .h .given) .1) (sym (counted-refused (ringsRuns ((c .before .before .before .before .before .h .given) .0 .0 .kind)) _ _ _ _ (c .before .before .before .count-rings .ensures) ((c .before .k2 .given) .1)))
+
+returns-3 : tie.Need-returns-3
+unfolding patchAt patchFrom
+returns-3 c = rw (← (c .before .before .before .before .before .before .before .read-header .ensures), (c .before .before .before .before .before .h .given) .1) (sym (counted-ends (ringsRuns ((c .before .before .before .before .before .h .given) .0 .0 .kind)) _ _ _ _ _ _ (c .before .before .before .count-rings .ensures) ((c .before .coords .given) .1)))
+
+pub scan-patch-spec : {M : Type 1} → statement M
+scan-patch-spec =
+    tie.close
+    (tie.spec
+    read-header-requires
+    enum-known-k
+    enum-known-h
+    count-rings-requires
+    enum-known-k-2
+    enum-known-coords
+    returns
+    returns-2
+    returns-3)
