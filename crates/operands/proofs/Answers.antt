@@ -21,13 +21,11 @@ use Rattle.coords.specs.Counts.{countsOf}
 use Rattle.coords.specs.declared.Counts.{Counts}
 use Rattle.coords.specs.declared.Counts.the-variants as counts
 use Rattle.coords.proofs.Refusals.{refused-is-given, accepted-gives-none}
-use Rattle.coords.proofs.Counted.{Counted, counted-refused, counted-accepted}
+use Rattle.coords.proofs.Counted.{counted-refused, counted-accepted}
 use Rattle.workspace.specs.Workspace.{tooSmall, tooSmallFor}
 use Rattle.blob.specs.Blob.{walkOfBlob, runsOfBlob}
 use Rattle.operands.specs.Operands.{operandChecks}
-use Rattle.operands.specs.Inner.{operandsOf, checkedBy, checkedOf, HeadersRead}
-use Rattle.operands.specs.declared.Operand.{Operand}
-use Rattle.operands.specs.declared.Operands.{Operands}
+use Rattle.operands.specs.Inner.{checkedBy, checkedOf, HeadersRead}
 use Rattle.operands.specs.declared.Checked.the-variants as checked
 use Rattle.operands.proofs.Order.{first-header, second-header, first-walk, second-walk, first-room, second-room, no-refusal}
 

@@ -14,7 +14,7 @@ use Rattle.gpb.specs.Header.{geometryStart}
 use Rattle.coords.specs.Walk.{walkOf, allLevels}
 use Rattle.coords.specs.Parts.{coordinateCount, walkedRuns}
 use Rattle.coords.proofs.Refusals.{none-given-is-accepted}
-use Rattle.workspace.specs.Workspace.{tooSmall, Room, Written}
+use Rattle.workspace.specs.Workspace.{Room, Written}
 use Rattle.workspace.proofs.Laws.{not-too-small}
 use Rattle.blob.specs.Blob.{walkOfBlob, runsOfBlob}
 use Rattle.operands.specs.Operands.{operandChecks, workspaces, filled}
@@ -22,7 +22,7 @@ use Rattle.operands.specs.Inner.{operandsOf, checkedBy, checkedOf, Ready
 use Rattle.operands.specs.declared.Operands.{Operands}
 use Rattle.operands.specs.declared.Checked.{Checked}
 use Rattle.operands.specs.declared.Checked.the-variants as checked
-use Rattle.operands.proofs.Order.{NoneHolds, none-holds}
+use Rattle.operands.proofs.Order.{none-holds}
 
 module _ (a b : List ℕ) (f1 n1 f2 n2 : ℕ) where
   -- no check holds: both blobs can be read into the memory lent

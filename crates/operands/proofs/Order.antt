@@ -1,7 +1,7 @@
 -- The checks of two operands in order: the first that holds, by what each part of the list gives. Assumes nothing.
 use mathlib.Core.Path.{_≡_, refl, sym, _∙_}
 use mathlib.Core.Bool.{Bool, true, false, cond}
-use mathlib.Core.List.{List, [], _∷_, _++_}
+use mathlib.Core.List.{List}
 use mathlib.Core.Option.{Option, none, some, orElse, Option·map, Option·some-ne-none, map-eq-none-iff}
 use Prim.Native.Nat.{ℕ}
 use Rattle.refusals.specs.Checks.{Check, check, firstOf, onSide}

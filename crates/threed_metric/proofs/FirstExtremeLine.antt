@@ -74,7 +74,7 @@ pair-reads-back srid p output small fit c =
 
 -- ---- what is reported
 
-nothing-exactly : (answer : Option Witness) → (answering (blobValue answer) ≡ answering nothing) ↔ (answer ≡ none)
+pub nothing-exactly : (answer : Option Witness) → (answering (blobValue answer) ≡ answering nothing) ↔ (answer ≡ none)
 unfolding blobValue
 nothing-exactly none = (λ e. refl, λ e. refl)
 nothing-exactly (some w) = (λ e. cc, λ e. cc)

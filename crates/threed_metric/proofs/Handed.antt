@@ -1,6 +1,6 @@
--- What a sweep is handed of both workspaces is the part that was written, and its vertices are those of the blobs. Assumes nothing.
-use mathlib.Core.Path.{_≡_, refl, sym, ap, _∙_}
-use mathlib.Core.List.{List, [], append-nil, map}
+-- What a sweep is handed of both workspaces is the part that was written, and its vertices and items are those of the blobs. Assumes nothing.
+use mathlib.Core.Path.{_≡_, ap}
+use mathlib.Core.List.{List, [], append-nil}
 use Prim.Native.Nat.{ℕ, _*_, _≤_}
 use native.Mathlib.Omega.{arith}
 use lib.ListN.{length, take, drop, length-append, length-take}
@@ -10,15 +10,14 @@ use Rattle.coords.specs.Walk.{Coordinate}
 use Rattle.coords.specs.Parts.{Run, coordinateCount, verticesOf}
 use Rattle.workspace.specs.Workspace.{floatsPerCoordinate, numbersPerRun, floatsNeeded, numbersNeeded, floatsOf, tableOf, floatsWith, tableWith}
 use Rattle.workspace.proofs.Contents.{length-floats, length-table}
-use Rattle.parts.specs.Points.{pointOf}
 use Rattle.parts.specs.Stored.{storedRuns, Laid}
-use Rattle.parts.proofs.Filled.{laid-written, vertices-written}
+use Rattle.parts.proofs.Filled.{laid-written, stored-written, vertices-written}
+use Rattle.items.specs.Items.{itemsOf}
 use Rattle.blob.specs.Blob.{runsOfBlob}
 use Rattle.operands.specs.Operands.{Workspaces, workspaces, filled}
-use Rattle.operands.specs.Inner.{operandOf, operandsOf, Ready}
-use Rattle.operands.specs.declared.Operand.{Operand}
+use Rattle.operands.specs.Inner.{operandsOf, Ready}
 use Rattle.operands.specs.declared.Operands.{Operands}
-use Rattle.threed_metric.specs.Operations.{vertexPoints}
+use Rattle.threed_metric.specs.Operations.{vertexPoints, itemsOfBlob}
 
 -- a part of a list, by its length
 pub taken : {A : Type 0} (n : ℕ) (l : List A) → n ≤ length l → n ≡ length (take n l)
@@ -49,6 +48,7 @@ pub record Handed (s : List ℕ) (coords runs : ℕ) (floats : List Float) (tabl
   pub for-numbers : numbersPerRun * runs ≤ length table
   pub laid : Laid (take (numbersPerRun * runs) table) (take (floatsPerCoordinate * coords) floats)
   pub vertices : verticesOf (storedRuns (take (numbersPerRun * runs) table) (take (floatsPerCoordinate * coords) floats)) ≡ vertexPoints s
+  pub items : itemsOf (storedRuns (take (numbersPerRun * runs) table) (take (floatsPerCoordinate * coords) floats)) ≡ itemsOfBlob s
 
 handed : (s : List ℕ) (floats : List Float) (table : List ℕ) → Handed s (coordinateCount (runsOfBlob s)) (length (runsOfBlob s)) (floatsWith (runsOfBlob s) floats) (tableWith (runsOfBlob s) table)
 handed s floats table =
@@ -60,6 +60,7 @@ handed s floats table =
       for-numbers = enough-numbers rs floats table;
       laid = rw (f, n, ← append-nil (floatsOf rs)) (laid-written rs []);
       vertices = rw (f, n, ← append-nil (floatsOf rs)) (vertices-written rs []);
+      items = rw (f, n, ← append-nil (floatsOf rs)) (ap itemsOf (stored-written rs []));
     }
 
 -- ---- both sides, once they are filled

@@ -5,12 +5,11 @@ use mathlib.Core.Option.{Option, none, some}
 use Prim.Native.Nat.{ℕ}
 use lib.ListN.{length}
 use lib.Ieee.{Float}
-use Rattle.refusals.specs.Checks.{Check, firstOf}
+use Rattle.refusals.specs.Checks.{firstOf}
 use Rattle.refusals.specs.declared.Refusal.{Refusal}
-use Rattle.gpb.specs.Header.{sridOf}
-use Rattle.operands.specs.Operands.{Workspaces, lentChecks, filled}
-use Rattle.threed_metric.specs.Answers.{Report, answering}
-use Rattle.threed_metric.specs.Operations.{outcome, toleranceChecks, outputChecks, unless, farthestPair, distanceValue, withinValue, blobValue, lineAfter, maxDistance, fullyWithin, lineChecks, longestLine}
+use Rattle.operands.specs.Operands.{Workspaces, lentChecks}
+use Rattle.threed_metric.specs.Answers.{Report}
+use Rattle.threed_metric.specs.Operations.{outcome, toleranceChecks, outputChecks, unless, maxDistance, fullyWithin, lineChecks, longestLine, distance, within, intersects, closestPoint, shortestLine}
 
 pub record SameLengths (w v : Workspaces) : Type 0 where
   pub floats1 : length (w .floats1) ≡ length (v .floats1)
@@ -31,14 +30,45 @@ module _ (a b : List ℕ) (w v : Workspaces) (same : SameLengths w v) where
   same-checks : lentChecks a b w ≡ lentChecks a b v
   same-checks = rw (same .floats1, same .table1, same .floats2, same .table2)
 
+  same-lent : firstOf (lentChecks a b w) ≡ firstOf (lentChecks a b v)
+  same-lent = rw same-checks
+
+  same-tolerance : (d : Float) → firstOf (toleranceChecks d ++ lentChecks a b w) ≡ firstOf (toleranceChecks d ++ lentChecks a b v)
+  same-tolerance d = rw same-checks
+
+  same-output : (bytes : ℕ) (lent lent′ : List ℕ) → length lent ≡ length lent′ → firstOf (lentChecks a b w ++ outputChecks bytes lent) ≡ firstOf (lentChecks a b v ++ outputChecks bytes lent′)
+  unfolding outputChecks
+  same-output bytes lent lent′ e = rw (same-checks, e)
+
   pub same-max-distance : maxDistance a b w .report ≡ maxDistance a b v .report
   unfolding maxDistance
-  same-max-distance = same-report (firstOf (lentChecks a b w)) (firstOf (lentChecks a b v)) (answering (distanceValue (farthestPair a b))) (filled a b w) (filled a b v) w v [] [] [] [] (rw same-checks)
+  same-max-distance = same-report _ _ _ _ _ _ _ _ _ _ _ same-lent
+
+  pub same-distance : distance a b w .report ≡ distance a b v .report
+  unfolding distance
+  same-distance = same-report _ _ _ _ _ _ _ _ _ _ _ same-lent
+
+  pub same-intersects : intersects a b w .report ≡ intersects a b v .report
+  unfolding intersects
+  same-intersects = same-report _ _ _ _ _ _ _ _ _ _ _ same-lent
 
   pub same-fully-within : (d : Float) → fullyWithin a b d w .report ≡ fullyWithin a b d v .report
   unfolding fullyWithin
-  same-fully-within d = same-report (firstOf (toleranceChecks d ++ lentChecks a b w)) (firstOf (toleranceChecks d ++ lentChecks a b v)) (answering (withinValue d (farthestPair a b))) (filled a b w) (filled a b v) w v [] [] [] [] (rw same-checks)
+  same-fully-within d = same-report _ _ _ _ _ _ _ _ _ _ _ (same-tolerance d)
 
-  pub same-longest-line : (lent lent′ : List ℕ) → length lent ≡ length lent′ → longestLine a b w lent .report ≡ longestLine a b v lent′ .report
-  unfolding longestLine lineChecks outputChecks
-  same-longest-line lent lent′ e = same-report (firstOf (lineChecks a b w lent)) (firstOf (lineChecks a b v lent′)) (answering (blobValue (farthestPair a b))) (filled a b w) (filled a b v) w v (lineAfter (sridOf a) (farthestPair a b) lent) (lineAfter (sridOf a) (farthestPair a b) lent′) lent lent′ (rw (same-checks, e))
+  pub same-within : (d : Float) → within a b d w .report ≡ within a b d v .report
+  unfolding within
+  same-within d = same-report _ _ _ _ _ _ _ _ _ _ _ (same-tolerance d)
+
+  module _ (lent lent′ : List ℕ) (long : length lent ≡ length lent′) where
+    pub same-longest-line : longestLine a b w lent .report ≡ longestLine a b v lent′ .report
+    unfolding longestLine lineChecks
+    same-longest-line = same-report _ _ _ _ _ _ _ _ _ _ _ (same-output 65 lent lent′ long)
+
+    pub same-shortest-line : shortestLine a b w lent .report ≡ shortestLine a b v lent′ .report
+    unfolding shortestLine lineChecks
+    same-shortest-line = same-report _ _ _ _ _ _ _ _ _ _ _ (same-output 65 lent lent′ long)
+
+    pub same-closest-point : closestPoint a b w lent .report ≡ closestPoint a b v lent′ .report
+    unfolding closestPoint
+    same-closest-point = same-report _ _ _ _ _ _ _ _ _ _ _ (same-output 37 lent lent′ long)

@@ -6,20 +6,22 @@ use mathlib.Core.Bool.{Bool, false}
 use mathlib.Core.Option.{Option, none, some}
 use lib.ListN.{length, drop}
 use lib.Dec.{ltb}
-use lib.Ieee.{Float, lt, le}
+use lib.Ieee.{Float, lt, le, eq}
 use Rattle.ieee754.specs.MinMax.{positiveZero}
 use Rattle.refusals.specs.Checks.{Check, check, firstOf}
 use Rattle.refusals.specs.declared.Refusal.{Refusal}
 use Rattle.gpb.specs.Header.{sridOf}
-use Rattle.gpb.specs.Written.{lineBlob}
+use Rattle.gpb.specs.Written.{pointBlob, lineBlob}
 use Rattle.primitives.specs.declared.Point.{Point}
 use Rattle.primitives.specs.declared.Witness.{Witness}
 use Rattle.parts.specs.Points.{pointOf}
 use Rattle.coords.specs.Walk.{Coordinate}
-use Rattle.coords.specs.Parts.{verticesOf}
+use Rattle.coords.specs.Parts.{mapRuns, verticesOf}
 use Rattle.blob.specs.Blob.{runsOfBlob}
 use Rattle.operands.specs.Operands.{Workspaces, lentChecks, filled}
 use Rattle.farthest.specs.Farthest.{farthestOf}
+use Rattle.items.specs.Items.{Item, itemsOf}
+use Rattle.closest.specs.Closest.{closestOf}
 use Rattle.threed_metric.specs.Answers.{Value, number, decided, blob, nothing, Report, refusing, answering}
 
 -- what a call answers and leaves: a report, both workspaces, the output
@@ -62,6 +64,15 @@ vertexPoints s = map pointOf (verticesOfBlob s)
 unfoldable pub farthestPair : List ℕ → List ℕ → Option Witness
 farthestPair a b = farthestOf (vertexPoints a) (vertexPoints b)
 
+-- ---- the closest pair of points, segments and triangles
+
+-- what a blob gives to the closest sweep, by the walk from its bytes (document 01, Closest sweep)
+abbrev pub itemsOfBlob : List ℕ → List Item
+itemsOfBlob s = itemsOf (mapRuns pointOf (runsOfBlob s))
+
+unfoldable pub closestPair : List ℕ → List ℕ → Option Witness
+closestPair a b = closestOf (itemsOfBlob a) (itemsOfBlob b)
+
 -- ---- values
 
 -- the distance, or none
@@ -74,6 +85,11 @@ unfoldable pub withinValue : Float → Option Witness → Value
 withinValue d none = decided false
 withinValue d (some w) = decided (le (w .d) d)
 
+-- distance = 0; none gives no
+unfoldable pub touchingValue : Option Witness → Value
+touchingValue none = decided false
+touchingValue (some w) = decided (eq (w .d) positiveZero)
+
 -- a blob where there is a pair, or none
 unfoldable pub blobValue : Option Witness → Value
 blobValue none = nothing
@@ -83,6 +99,11 @@ blobValue (some w) = blob
 unfoldable pub lineAfter : ℕ → Option Witness → List ℕ → List ℕ
 lineAfter srid none output = output
 lineAfter srid (some w) output = lineBlob srid (w .ax) (w .ay) (w .az) (w .bx) (w .by) (w .bz) ++ drop 65 output
+
+-- the first point in the output's first 37 bytes, rest unchanged; none leaves every byte
+unfoldable pub pointAfter : ℕ → Option Witness → List ℕ → List ℕ
+pointAfter srid none output = output
+pointAfter srid (some w) output = pointBlob srid (w .ax) (w .ay) (w .az) ++ drop 37 output
 
 -- ---- operations
 
@@ -107,3 +128,33 @@ unfoldable pub longestLine : List ℕ → List ℕ → Workspaces → List ℕ �
 longestLine a b w output =
     unless (firstOf (lineChecks a b w output))
     (outcome (answering (blobValue (farthestPair a b))) (filled a b w) (lineAfter (sridOf a) (farthestPair a b) output)) w output
+
+-- st_3d_distance
+unfoldable pub distance : List ℕ → List ℕ → Workspaces → Outcome
+distance a b w =
+    unless (firstOf (lentChecks a b w))
+    (outcome (answering (distanceValue (closestPair a b))) (filled a b w) []) w []
+
+-- st_3d_dwithin
+unfoldable pub within : List ℕ → List ℕ → Float → Workspaces → Outcome
+within a b d w =
+    unless (firstOf (toleranceChecks d ++ lentChecks a b w))
+    (outcome (answering (withinValue d (closestPair a b))) (filled a b w) []) w []
+
+-- st_3d_intersects
+unfoldable pub intersects : List ℕ → List ℕ → Workspaces → Outcome
+intersects a b w =
+    unless (firstOf (lentChecks a b w))
+    (outcome (answering (touchingValue (closestPair a b))) (filled a b w) []) w []
+
+-- st_3d_closest_point; the SRID is A's only
+unfoldable pub closestPoint : List ℕ → List ℕ → Workspaces → List ℕ → Outcome
+closestPoint a b w output =
+    unless (firstOf (lentChecks a b w ++ outputChecks 37 output))
+    (outcome (answering (blobValue (closestPair a b))) (filled a b w) (pointAfter (sridOf a) (closestPair a b) output)) w output
+
+-- st_3d_shortest_line; the SRID is A's only
+unfoldable pub shortestLine : List ℕ → List ℕ → Workspaces → List ℕ → Outcome
+shortestLine a b w output =
+    unless (firstOf (lineChecks a b w output))
+    (outcome (answering (blobValue (closestPair a b))) (filled a b w) (lineAfter (sridOf a) (closestPair a b) output)) w output

@@ -2,18 +2,18 @@
 use Prim.Native.Nat.{ℕ}
 use mathlib.Core.Path.{_≡_}
 use mathlib.Core.List.{List, [], _∷_}
-use mathlib.Core.Bool.{Bool}
-use mathlib.Core.Option.{none}
-use lib.ListN.{take}
+use mathlib.Core.Bool.{Bool, false}
+use mathlib.Core.Option.{none, some}
+use lib.ListN.{take, getElem?}
 use lib.Ieee.{Float}
 use Rattle.refusals.specs.Checks.{firstOf}
 use Rattle.gpb.specs.Header.{headerChecks3d}
 use Rattle.coords.specs.Walk.{Coordinate, Geometry, ok}
-use Rattle.coords.specs.Parts.{Run, run, runsOf}
+use Rattle.coords.specs.Parts.{Run, run, runsOf, isLine, isFace}
 use Rattle.parts.specs.Points.{pointOf}
-use Rattle.blob.specs.Blob.{walkOfBlob}
+use Rattle.blob.specs.Blob.{walkOfBlob, runsOfBlob}
 use Rattle.extremes.specs.Pairs.{Pair}
-use Rattle.extremes.specs.Extreme.{distanceOf, atMost, Holds}
+use Rattle.extremes.specs.Extreme.{distanceOf, atMost, atLeast, Holds}
 use Rattle.operands.specs.Operands.{Workspaces}
 use Rattle.threed_metric.specs.Answers.{nothing, blob, Report, answering}
 use Rattle.threed_metric.specs.Operations.{verticesOfBlob, lineChecks}
@@ -52,3 +52,12 @@ FirstExtremeLine order a b report output =
 -- of an accepted longest-line call: `lent` is the output before it, `output` the one after
 pub record LongestOfAll (a b : List ℕ) (w : Workspaces) (lent : List ℕ) (report : Report) (output : List ℕ) : Type 0 where
   pub accepted : firstOf (lineChecks a b w lent) ≡ none → FirstExtremeLine atMost a b report output
+
+-- a blob in which no line or ring has a coordinate holds point runs only: its runs are those that have a coordinate
+pub record PointRunsOnly (s : List ℕ) : Type 0 where
+  pub no-line : (i kind : ℕ) (cs : List Coordinate) → getElem? (runsOfBlob s) i ≡ some (run kind cs) → isLine kind ≡ false
+  pub no-ring : (i kind : ℕ) (cs : List Coordinate) → getElem? (runsOfBlob s) i ≡ some (run kind cs) → isFace kind ≡ false
+
+-- of an accepted shortest-line call whose two blobs hold point runs only
+pub record ShortestOfPoints (a b : List ℕ) (w : Workspaces) (lent : List ℕ) (report : Report) (output : List ℕ) : Type 0 where
+  pub accepted : firstOf (lineChecks a b w lent) ≡ none → PointRunsOnly a → PointRunsOnly b → FirstExtremeLine atLeast a b report output

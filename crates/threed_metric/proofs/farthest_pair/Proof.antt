@@ -1,7 +1,6 @@
 -- `threed_metric::farthest_pair` meets its contract. Assumes nothing.
 use mathlib.Core.Path.{_∙_}
 use native.Mathlib.Omega.{arith}
-use lib.ListN.{length-take}
 use Rattle.threed_metric.specs.Operations.{farthestPair}
 use Rattle.threed_metric.proofs.Handed.{taken, needed-first, needed-second, handed-first, handed-second}
 use borrow.Author.Needs.{needs}

@@ -1,12 +1,17 @@
 -- `threed_metric::st_3d_dfully_within` meets its contract. Assumes nothing.
 use Rattle.operands.specs.Operands.{workspaces}
+use Rattle.threed_metric.specs.Operations.{farthestPair, maxDistance, fullyWithin}
 use Rattle.threed_metric.proofs.Outcomes.{below-zero, within-refused, within-nothing, within-yes, within-no}
 use borrow.Author.Needs.{needs}
 use Rattle.threed_metric.proofs.st_3d_dfully_within.Statement.{statement}
 use Rattle.threed_metric.proofs.st_3d_dfully_within.Tie as tie
 
 returns : tie.Need-returns
-returns c = let e = c .before .before .before .before .before .before .before in below-zero (e .args .a .now) (e .args .b .now) (e .args .d) (workspaces (e .args .floats1 .now) (e .args .table1 .now) (e .args .floats2 .now) (e .args .table2 .now)) (c .if1 .taken)
+unfolding fullyWithin
+returns c =
+    let e = c .before .before .before .before .before .before .before in
+    let w = workspaces (e .args .floats1 .now) (e .args .table1 .now) (e .args .floats2 .now) (e .args .table2 .now) in
+    below-zero (e .args .a .now) (e .args .b .now) (farthestPair (e .args .a .now) (e .args .b .now)) (e .args .d) w (c .if1 .taken)
 
 st-3d-max-distance-requires : tie.Need-st-3d-max-distance-requires
 st-3d-max-distance-requires c κs = search needs
@@ -33,10 +38,11 @@ same-length-4 : tie.Need-same-length-4
 same-length-4 c = search needs
 
 returns-2 : tie.Need-returns-2
+unfolding fullyWithin maxDistance
 returns-2 c =
     let e = c .before .before .before .before .before .before .before .before .before .before .before .before .before .before .before .before .before .before .before .before .before .before .before in
     let w = workspaces (e .args .floats1 .now) (e .args .table1 .now) (e .args .floats2 .now) (e .args .table2 .now) in
-    within-refused (e .args .a .now) (e .args .b .now) (e .args .d) w _ (c .before .before .before .before .before .before .before .before .before .before .before .before .before .before .before .before .if1 .left) _ (c .before .before .before .before .before .before .before .before .before .before .before .st-3d-max-distance .ensures) _ ((c .before .refusal .given) .1)
+    within-refused (e .args .a .now) (e .args .b .now) (farthestPair (e .args .a .now) (e .args .b .now)) (e .args .d) w _ (c .before .before .before .before .before .before .before .before .before .before .before .before .before .before .before .before .if1 .left) _ (c .before .before .before .before .before .before .before .before .before .before .before .st-3d-max-distance .ensures) _ ((c .before .refusal .given) .1)
 
 same-length-5 : tie.Need-same-length-5
 same-length-5 c = search needs
@@ -51,10 +57,11 @@ same-length-8 : tie.Need-same-length-8
 same-length-8 c = search needs
 
 returns-3 : tie.Need-returns-3
+unfolding fullyWithin maxDistance
 returns-3 c =
     let e = c .before .before .before .before .before .before .before .before .before .before .before .before .before .before .before .before .before .before .before .before .before .before in
     let w = workspaces (e .args .floats1 .now) (e .args .table1 .now) (e .args .floats2 .now) (e .args .table2 .now) in
-    within-nothing (e .args .a .now) (e .args .b .now) (e .args .d) w _ (c .before .before .before .before .before .before .before .before .before .before .before .before .before .before .before .if1 .left) _ (c .before .before .before .before .before .before .before .before .before .before .st-3d-max-distance .ensures) ((c .enum-told .given) .1)
+    within-nothing (e .args .a .now) (e .args .b .now) (farthestPair (e .args .a .now) (e .args .b .now)) (e .args .d) w _ (c .before .before .before .before .before .before .before .before .before .before .before .before .before .before .before .if1 .left) _ (c .before .before .before .before .before .before .before .before .before .before .st-3d-max-distance .ensures) ((c .enum-told .given) .1)
 
 same-length-9 : tie.Need-same-length-9
 same-length-9 c = search needs
@@ -69,10 +76,11 @@ same-length-12 : tie.Need-same-length-12
 same-length-12 c = search needs
 
 returns-4 : tie.Need-returns-4
+unfolding fullyWithin maxDistance
 returns-4 c =
     let e = c .before .before .before .before .before .before .before .before .before .before .before .before .before .before .before .before .before .before .before .before .before .before .before .before in
     let w = workspaces (e .args .floats1 .now) (e .args .table1 .now) (e .args .floats2 .now) (e .args .table2 .now) in
-    within-yes (e .args .a .now) (e .args .b .now) (e .args .d) w _ (c .before .before .before .before .before .before .before .before .before .before .before .before .before .before .before .before .before .if1 .left) _ (c .before .before .before .before .before .before .before .before .before .before .before .before .st-3d-max-distance .ensures) _ ((c .before .before .m .given) .1) (c .if2 .taken)
+    within-yes (e .args .a .now) (e .args .b .now) (farthestPair (e .args .a .now) (e .args .b .now)) (e .args .d) w _ (c .before .before .before .before .before .before .before .before .before .before .before .before .before .before .before .before .before .if1 .left) _ (c .before .before .before .before .before .before .before .before .before .before .before .before .st-3d-max-distance .ensures) _ ((c .before .before .m .given) .1) (c .if2 .taken)
 
 same-length-13 : tie.Need-same-length-13
 same-length-13 c = search needs
@@ -87,10 +95,11 @@ same-length-16 : tie.Need-same-length-16
 same-length-16 c = search needs
 
 returns-5 : tie.Need-returns-5
+unfolding fullyWithin maxDistance
 returns-5 c =
     let e = c .before .before .before .before .before .before .before .before .before .before .before .before .before .before .before .before .before .before .before .before .before .before .before .before in
     let w = workspaces (e .args .floats1 .now) (e .args .table1 .now) (e .args .floats2 .now) (e .args .table2 .now) in
-    within-no (e .args .a .now) (e .args .b .now) (e .args .d) w _ (c .before .before .before .before .before .before .before .before .before .before .before .before .before .before .before .before .before .if1 .left) _ (c .before .before .before .before .before .before .before .before .before .before .before .before .st-3d-max-distance .ensures) _ ((c .before .before .m .given) .1) (c .if2 .left)
+    within-no (e .args .a .now) (e .args .b .now) (farthestPair (e .args .a .now) (e .args .b .now)) (e .args .d) w _ (c .before .before .before .before .before .before .before .before .before .before .before .before .before .before .before .before .before .if1 .left) _ (c .before .before .before .before .before .before .before .before .before .before .before .before .st-3d-max-distance .ensures) _ ((c .before .before .m .given) .1) (c .if2 .left)
 
 pub st-3d-dfully-within-spec : {M : Type 1} → statement M
 st-3d-dfully-within-spec =

@@ -1,8 +1,11 @@
 -- `threed_metric::st_3d_longest_line` meets its contract. Assumes nothing.
-use mathlib.Core.Path.{ap}
+use mathlib.Core.Path.{refl, ap}
 use Rattle.operands.specs.Operands.{workspaces}
 use Rattle.operands.specs.declared.Operands.{Operands}
-use Rattle.threed_metric.proofs.Outcomes.{refused-first, accepted, line-refused, line-short, line-nothing, line-written, with-third}
+use Rattle.threed_metric.specs.Answers.{writtenReport}
+use Rattle.threed_metric.specs.Operations.{farthestPair, blobValue, lineAfter, lineChecks, longestLine}
+use Rattle.threed_metric.proofs.Outcomes.{refused-first, accepted, write-refused, write-short, write-answered, farthest-told}
+use Rattle.threed_metric.proofs.LongestLine.{longest-of-outcome}
 use borrow.Author.Needs.{needs}
 use Rattle.threed_metric.proofs.st_3d_longest_line.Statement.{statement}
 use Rattle.threed_metric.proofs.st_3d_longest_line.Tie as tie
@@ -17,12 +20,13 @@ enum-known-o : tie.Need-enum-known-o
 enum-known-o c = search needs
 
 returns : tie.Need-returns
+unfolding longestLine lineChecks writtenReport
 returns c =
     let e = c .before .before .before .before .before .before .before .before .before .before .before .before in
     let w = workspaces (e .args .floats1 .now) (e .args .table1 .now) (e .args .floats2 .now) (e .args .table2 .now) in
     let s = accepted (e .args .a .now) (e .args .b .now) w _ (c .before .before .before .before .check .ensures) _ ((c .before .before .o .given) .1) in
-    with-third (e .args .a .now) (e .args .b .now) w (e .args .output .now) (λ i. c .before .before .before .before .before .before .before .before .before .before .before .shared-slice-known .given i .fits) (λ i. c .before .before .before .before .before .before .before .before .before .before .shared-slice-known2 .given i .fits) _ _ _
-    (line-short (e .args .a .now) (e .args .b .now) w (e .args .output .now) (s .none-holds) (c .if1 .taken))
+    let r = write-short (e .args .a .now) (e .args .b .now) (farthestPair (e .args .a .now) (e .args .b .now)) lineAfter 65 w (e .args .output .now) (s .none-holds) (c .if1 .taken) in
+    (r, longest-of-outcome (e .args .a .now) (e .args .b .now) w (e .args .output .now) (λ i. c .before .before .before .before .before .before .before .before .before .before .before .shared-slice-known .given i .fits) (λ i. c .before .before .before .before .before .before .before .before .before .before .shared-slice-known2 .given i .fits) _ r)
 
 farthest-pair-requires : tie.Need-farthest-pair-requires
 farthest-pair-requires c κs =
@@ -41,11 +45,12 @@ write-line-requires : tie.Need-write-line-requires
 write-line-requires c κs = search needs
 
 returns-2 : tie.Need-returns-2
+unfolding longestLine lineChecks writtenReport
 returns-2 c =
     let e = c .before .before .before .before .before .before .before .before .before .before .before in
     let w = workspaces (e .args .floats1 .now) (e .args .table1 .now) (e .args .floats2 .now) (e .args .table2 .now) in
-    with-third (e .args .a .now) (e .args .b .now) w (e .args .output .now) (λ i. c .before .before .before .before .before .before .before .before .before .before .shared-slice-known .given i .fits) (λ i. c .before .before .before .before .before .before .before .before .before .shared-slice-known2 .given i .fits) _ _ _
-    (line-refused (e .args .a .now) (e .args .b .now) w (e .args .output .now) _ (refused-first (e .args .a .now) (e .args .b .now) w _ (c .before .before .before .check .ensures) _ ((c .before .refusal .given) .1)))
+    let r = write-refused (e .args .a .now) (e .args .b .now) (farthestPair (e .args .a .now) (e .args .b .now)) lineAfter 65 w (e .args .output .now) _ (refused-first (e .args .a .now) (e .args .b .now) w _ (c .before .before .before .check .ensures) _ ((c .before .refusal .given) .1)) in
+    (r, longest-of-outcome (e .args .a .now) (e .args .b .now) w (e .args .output .now) (λ i. c .before .before .before .before .before .before .before .before .before .before .shared-slice-known .given i .fits) (λ i. c .before .before .before .before .before .before .before .before .before .shared-slice-known2 .given i .fits) _ r)
 
 same-length : tie.Need-same-length
 same-length c = search needs
@@ -60,12 +65,14 @@ same-length-4 : tie.Need-same-length-4
 same-length-4 c = search needs
 
 returns-3 : tie.Need-returns-3
+unfolding longestLine lineChecks writtenReport blobValue lineAfter
 returns-3 c =
     let e = c .before .before .before .before .before .before .before .before .before .before .before .before .before .before .before .before .before .before .before .before .before .before .before .before .before .before .before in
     let w = workspaces (e .args .floats1 .now) (e .args .table1 .now) (e .args .floats2 .now) (e .args .table2 .now) in
     let s = accepted (e .args .a .now) (e .args .b .now) w _ (c .before .before .before .before .before .before .before .before .before .before .before .before .before .before .before .before .before .before .before .check .ensures) _ ((c .before .before .before .before .before .before .before .before .before .before .before .before .before .before .before .before .before .o .given) .1) in
-    with-third (e .args .a .now) (e .args .b .now) w (e .args .output .now) (λ i. c .before .before .before .before .before .before .before .before .before .before .before .before .before .before .before .before .before .before .before .before .before .before .before .before .before .before .shared-slice-known .given i .fits) (λ i. c .before .before .before .before .before .before .before .before .before .before .before .before .before .before .before .before .before .before .before .before .before .before .before .before .before .shared-slice-known2 .given i .fits) _ _ _
-    (line-nothing (e .args .a .now) (e .args .b .now) w (e .args .output .now) (s .none-holds) (c .before .before .before .before .before .before .before .before .before .before .before .before .before .before .before .if1 .left) _ _ (c .before .before .before .before .before .before .before .before .before .before .farthest-pair .ensures) ((c .enum-told .given) .1))
+    let read = c .before .before .before .before .before .before .before .before .before .before .farthest-pair .ensures in
+    let r = write-answered (e .args .a .now) (e .args .b .now) (farthestPair (e .args .a .now) (e .args .b .now)) lineAfter 65 w (e .args .output .now) (s .none-holds) (c .before .before .before .before .before .before .before .before .before .before .before .before .before .before .before .if1 .left) _ (read .memory) _ (farthest-told (e .args .a .now) (e .args .b .now) w _ _ read _ ((c .enum-told .given) .1)) _ refl _ refl in
+    (r, longest-of-outcome (e .args .a .now) (e .args .b .now) w (e .args .output .now) (λ i. c .before .before .before .before .before .before .before .before .before .before .before .before .before .before .before .before .before .before .before .before .before .before .before .before .before .before .shared-slice-known .given i .fits) (λ i. c .before .before .before .before .before .before .before .before .before .before .before .before .before .before .before .before .before .before .before .before .before .before .before .before .before .shared-slice-known2 .given i .fits) _ r)
 
 same-length-5 : tie.Need-same-length-5
 same-length-5 c = search needs
@@ -83,12 +90,14 @@ same-length-9 : tie.Need-same-length-9
 same-length-9 c = search needs
 
 returns-4 : tie.Need-returns-4
+unfolding longestLine lineChecks writtenReport blobValue lineAfter
 returns-4 c =
     let e = c .before .before .before .before .before .before .before .before .before .before .before .before .before .before .before .before .before .before .before .before .before .before .before .before .before .before .before .before .before .before .before .before in
     let w = workspaces (e .args .floats1 .now) (e .args .table1 .now) (e .args .floats2 .now) (e .args .table2 .now) in
     let s = accepted (e .args .a .now) (e .args .b .now) w _ (c .before .before .before .before .before .before .before .before .before .before .before .before .before .before .before .before .before .before .before .before .before .before .before .before .check .ensures) _ ((c .before .before .before .before .before .before .before .before .before .before .before .before .before .before .before .before .before .before .before .before .before .before .o .given) .1) in
-    with-third (e .args .a .now) (e .args .b .now) w (e .args .output .now) (λ i. c .before .before .before .before .before .before .before .before .before .before .before .before .before .before .before .before .before .before .before .before .before .before .before .before .before .before .before .before .before .before .before .shared-slice-known .given i .fits) (λ i. c .before .before .before .before .before .before .before .before .before .before .before .before .before .before .before .before .before .before .before .before .before .before .before .before .before .before .before .before .before .before .shared-slice-known2 .given i .fits) _ _ _
-    (line-written (e .args .a .now) (e .args .b .now) w (e .args .output .now) (s .none-holds) (c .before .before .before .before .before .before .before .before .before .before .before .before .before .before .before .before .before .before .before .before .if1 .left) _ _ (c .before .before .before .before .before .before .before .before .before .before .before .before .before .before .before .farthest-pair .ensures) _ ((c .before .before .before .before .before .w .given) .1) _ (ap (λ (o : Operands). o .srid) (s .own)) _ (c .before .before .write-line .ensures))
+    let read = c .before .before .before .before .before .before .before .before .before .before .before .before .before .before .before .farthest-pair .ensures in
+    let r = write-answered (e .args .a .now) (e .args .b .now) (farthestPair (e .args .a .now) (e .args .b .now)) lineAfter 65 w (e .args .output .now) (s .none-holds) (c .before .before .before .before .before .before .before .before .before .before .before .before .before .before .before .before .before .before .before .before .if1 .left) _ (read .memory) _ (farthest-told (e .args .a .now) (e .args .b .now) w _ _ read _ ((c .before .before .before .before .before .w .given) .1)) _ (ap (λ (o : Operands). o .srid) (s .own)) _ (c .before .before .write-line .ensures) in
+    (r, longest-of-outcome (e .args .a .now) (e .args .b .now) w (e .args .output .now) (λ i. c .before .before .before .before .before .before .before .before .before .before .before .before .before .before .before .before .before .before .before .before .before .before .before .before .before .before .before .before .before .before .before .shared-slice-known .given i .fits) (λ i. c .before .before .before .before .before .before .before .before .before .before .before .before .before .before .before .before .before .before .before .before .before .before .before .before .before .before .before .before .before .before .shared-slice-known2 .given i .fits) _ r)
 
 pub st-3d-longest-line-spec : {M : Type 1} → statement M
 st-3d-longest-line-spec =

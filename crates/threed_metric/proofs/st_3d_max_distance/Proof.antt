@@ -1,6 +1,8 @@
 -- `threed_metric::st_3d_max_distance` meets its contract. Assumes nothing.
 use Rattle.operands.specs.Operands.{workspaces}
-use Rattle.threed_metric.proofs.Outcomes.{refused-first, accepted, max-refused, max-nothing, max-measured}
+use Rattle.threed_metric.specs.Answers.{answerReport}
+use Rattle.threed_metric.specs.Operations.{farthestPair, distanceValue, maxDistance}
+use Rattle.threed_metric.proofs.Outcomes.{refused-first, accepted, measure-refused, measure-answered, farthest-told}
 use borrow.Author.Needs.{needs}
 use Rattle.threed_metric.proofs.st_3d_max_distance.Statement.{statement}
 use Rattle.threed_metric.proofs.st_3d_max_distance.Tie as tie
@@ -28,10 +30,11 @@ enum-known-w : tie.Need-enum-known-w
 enum-known-w c = search needs
 
 returns : tie.Need-returns
+unfolding maxDistance answerReport
 returns c =
     let e = c .before .before .before .before .before .before .before .before .before .before in
     let w = workspaces (e .args .floats1 .now) (e .args .table1 .now) (e .args .floats2 .now) (e .args .table2 .now) in
-    max-refused (e .args .a .now) (e .args .b .now) w _ (refused-first (e .args .a .now) (e .args .b .now) w _ (c .before .before .before .check .ensures) _ ((c .before .refusal .given) .1))
+    measure-refused (e .args .a .now) (e .args .b .now) (farthestPair (e .args .a .now) (e .args .b .now)) distanceValue w _ (refused-first (e .args .a .now) (e .args .b .now) w _ (c .before .before .before .check .ensures) _ ((c .before .refusal .given) .1))
 
 same-length : tie.Need-same-length
 same-length c = search needs
@@ -46,11 +49,13 @@ same-length-4 : tie.Need-same-length-4
 same-length-4 c = search needs
 
 returns-2 : tie.Need-returns-2
+unfolding maxDistance answerReport distanceValue
 returns-2 c =
     let e = c .before .before .before .before .before .before .before .before .before .before .before .before .before .before .before .before .before .before .before .before .before .before .before .before .before in
     let w = workspaces (e .args .floats1 .now) (e .args .table1 .now) (e .args .floats2 .now) (e .args .table2 .now) in
     let s = accepted (e .args .a .now) (e .args .b .now) w _ (c .before .before .before .before .before .before .before .before .before .before .before .before .before .before .before .before .before .before .check .ensures) _ ((c .before .before .before .before .before .before .before .before .before .before .before .before .before .before .before .before .o .given) .1) in
-    max-nothing (e .args .a .now) (e .args .b .now) w (s .none-holds) _ _ (c .before .before .before .before .before .before .before .before .before .before .farthest-pair .ensures) ((c .enum-told .given) .1)
+    let read = c .before .before .before .before .before .before .before .before .before .before .farthest-pair .ensures in
+    measure-answered (e .args .a .now) (e .args .b .now) (farthestPair (e .args .a .now) (e .args .b .now)) distanceValue w (s .none-holds) _ (read .memory) _ (farthest-told (e .args .a .now) (e .args .b .now) w _ _ read _ ((c .enum-told .given) .1))
 
 same-length-5 : tie.Need-same-length-5
 same-length-5 c = search needs
@@ -65,11 +70,13 @@ same-length-8 : tie.Need-same-length-8
 same-length-8 c = search needs
 
 returns-3 : tie.Need-returns-3
+unfolding maxDistance answerReport distanceValue
 returns-3 c =
     let e = c .before .before .before .before .before .before .before .before .before .before .before .before .before .before .before .before .before .before .before .before .before .before .before .before .before .before in
     let w = workspaces (e .args .floats1 .now) (e .args .table1 .now) (e .args .floats2 .now) (e .args .table2 .now) in
     let s = accepted (e .args .a .now) (e .args .b .now) w _ (c .before .before .before .before .before .before .before .before .before .before .before .before .before .before .before .before .before .before .before .check .ensures) _ ((c .before .before .before .before .before .before .before .before .before .before .before .before .before .before .before .before .before .o .given) .1) in
-    max-measured (e .args .a .now) (e .args .b .now) w (s .none-holds) _ _ (c .before .before .before .before .before .before .before .before .before .before .before .farthest-pair .ensures) _ ((c .before .w .given) .1)
+    let read = c .before .before .before .before .before .before .before .before .before .before .before .farthest-pair .ensures in
+    measure-answered (e .args .a .now) (e .args .b .now) (farthestPair (e .args .a .now) (e .args .b .now)) distanceValue w (s .none-holds) _ (read .memory) _ (farthest-told (e .args .a .now) (e .args .b .now) w _ _ read _ ((c .before .w .given) .1))
 
 pub st-3d-max-distance-spec : {M : Type 1} → statement M
 st-3d-max-distance-spec =
