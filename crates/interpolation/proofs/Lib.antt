@@ -1,0 +1,10 @@
+-- The laws of interpolation.
+pub mod Lines
+pub mod Turns
+pub mod Passes
+pub mod Scan
+pub mod Looks
+pub mod Cases
+pub mod Order
+pub mod Outcome
+pub mod Report

@@ -1,0 +1,3 @@
+pub mod Interpolation
+pub mod Operation
+pub mod Inner

@@ -1,0 +1,417 @@
+// The point at a fraction of a line's length: document 01's interpolation, for every input.
+use coords::Counts;
+use coords::ParsedHeader;
+use gpb::Header;
+use primitives::Point;
+use refusals::Refusal;
+use workspace::FLOATS_PER_COORDINATE;
+use workspace::NUMBERS_PER_RUN;
+ghost use mathlib.Core.Path.{_≡_};
+ghost use mathlib.Core.Bool.{true, false};
+ghost use mathlib.Core.List.{foldl};
+ghost use mathlib.Core.Option.{some};
+ghost use Prim.Native.Nat.{_+_, _*_, _≤_, _<_};
+ghost use lib.ListN.{length};
+ghost use Rattle.coords.specs.Walk.{walkOf, allLevels};
+ghost use Rattle.coords.specs.Parts.{walkedRuns};
+ghost use Rattle.coords.specs.Refusals.{isAccepted};
+ghost use Rattle.workspace.specs.Workspace.{floatsPerCoordinate};
+ghost use Rattle.parts.specs.Stored.{pointsFrom, storedRuns, Laid};
+ghost use Rattle.interpolation.specs.Interpolation.{segment, segmentsOfLine, segmentsOf, lengthOf, partOf, pointOn, interpolatedPoint};
+ghost use Rattle.interpolation.specs.Operation.{outOfRange, hasPointOrFace, isNoLine, reportOf, outcome, interpolationOutcome};
+ghost use Rattle.interpolation.specs.Inner.{SaysOf, OwnRuns, Counted, checkedOf, measuring, searching, notMeasured, notSearched, Ready, PointRead};
+
+// A point blob in the output, or a refusal.
+pub enum Interpolated {
+    Blob,
+    Refused(Refusal),
+}
+
+// What a geometry holds: a point or face; neither, and where it ends; or members, and where the first is.
+pub enum Content {
+    PointOrFace,
+    Neither { end: usize },
+    Members { count: u32, first: usize },
+}
+
+// A call that refuses nothing: where the geometry starts, its coordinates and runs, the SRID's bits; or the refusal.
+pub enum Checked {
+    Accepted {
+        at: usize,
+        coords: usize,
+        runs: usize,
+        srid: u32,
+    },
+    Refused(Refusal),
+}
+
+// The first segment's start, once there is one, and the lengths added so far.
+pub struct Measured {
+    pub started: bool,
+    pub start: Point,
+    pub total: f64,
+}
+
+// The segment looked at, what is walked before and after it, and whether the search stops there.
+pub struct Search {
+    pub found: bool,
+    pub walked: f64,
+    pub reached: f64,
+    pub start: Point,
+    pub end: Point,
+}
+
+// The bytes of a point blob.
+const POINT_BYTES: usize = 37;
+
+// The kind of a line.
+const LINE: u32 = 2;
+
+// Whether a fraction is not within 0..1; a NaN is not.
+fn out_of_range(fraction: f64) -> bool
+    ensures { λ r. ⌜ r ≡ outOfRange fraction ⌝ }
+{
+    if 0.0 <= fraction {
+        if fraction <= 1.0 { false } else { true }
+    } else {
+        true
+    }
+}
+
+// A geometry that is no collection. The walk reads it, so that it is not refused.
+fn own_content(s: &[u8], at: usize, kind: u32) -> Content
+    requires { ⌜ OwnRuns (now s) at kind ⌝ }
+    ensures { λ r. ⌜ SaysOf (now (s .entry)) at r ⌝ }
+{
+    match coords::count(s, at) {
+        Counts::Refused(_) => Content::PointOrFace,
+        Counts::Accepted { coords, runs, end } => {
+            if kind == LINE {
+                return Content::Neither { end };
+            }
+            if runs == 0 {
+                Content::Neither { end }
+            } else {
+                Content::PointOrFace
+            }
+        }
+    }
+}
+
+// A geometry that the walk reads, so that its header is not refused.
+fn content_at(s: &[u8], at: usize) -> Content
+    requires { ⌜ isAccepted (walkOf allLevels (now s) at) ≡ true ⌝ }
+    ensures { λ r. ⌜ SaysOf (now (s .entry)) at r ⌝ }
+{
+    match coords::read_header(s, at) {
+        ParsedHeader::Refused(_) => Content::PointOrFace,
+        ParsedHeader::Read(h) => {
+            let kind = h.kind;
+            let body = h.body;
+            if parts::run_class(kind) == 0 {
+                Content::Members {
+                    count: fields::u32_at(s, body, h.little),
+                    first: body + 4,
+                }
+            } else {
+                own_content(s, at, kind)
+            }
+        }
+    }
+}
+
+// Whether a geometry that the walk reads has a point or face. Members lie behind their collection's header, so all geometries are met in a row.
+fn has_point_or_face(s: &[u8], at: usize) -> bool
+    requires { ⌜ isAccepted (walkOf allLevels (now s) at) ≡ true ⌝ }
+    ensures { λ r. ⌜ r ≡ hasPointOrFace (walkedRuns (walkOf allLevels (now (s .entry)) at)) ⌝ }
+{
+    let mut left: usize = 1;
+    let mut next = at;
+    while 0 < left {
+        match content_at(s, next) {
+            Content::PointOrFace => {
+                return true;
+            }
+            Content::Neither { end } => {
+                left -= 1;
+                next = end;
+            }
+            Content::Members { count, first } => {
+                let n = count as usize;
+                left = left - 1 + n;
+                next = first;
+            }
+        }
+    }
+    false
+}
+
+// 14: a point or face, or no segment. Runs of one coordinate each have no segment.
+fn is_no_line(s: &[u8], at: usize, coords: usize, runs: usize) -> bool
+    requires { ⌜ Counted (walkOf allLevels (now s) at) coords runs ⌝ }
+    ensures { λ r. ⌜ r ≡ isNoLine (walkedRuns (walkOf allLevels (now (s .entry)) at)) ⌝ }
+{
+    if coords == runs {
+        return true;
+    }
+    has_point_or_face(s, at)
+}
+
+// Every check in order; floats, numbers and output are the lengths lent.
+fn check(s: &[u8], fraction: f64, floats: usize, numbers: usize, output: usize) -> Checked
+    ensures { λ r. ⌜ r ≡ checkedOf (now (s .entry)) fraction floats numbers output ⌝ }
+{
+    if out_of_range(fraction) {
+        return Checked::Refused(Refusal { number: 2, side: 0 });
+    }
+    match gpb::read_header(s) {
+        Header::Refused(number) => Checked::Refused(Refusal { number, side: 1 }),
+        Header::Found { at, code, srid } => match coords::count(s, at) {
+            Counts::Refused(number) => Checked::Refused(Refusal { number, side: 1 }),
+            Counts::Accepted { coords, runs, end } => {
+                if is_no_line(s, at, coords, runs) {
+                    return Checked::Refused(Refusal {
+                        number: 14,
+                        side: 1,
+                    });
+                }
+                if workspace::too_small(coords, runs, floats, numbers) {
+                    return Checked::Refused(Refusal {
+                        number: 15,
+                        side: 1,
+                    });
+                }
+                if output < POINT_BYTES {
+                    return Checked::Refused(Refusal {
+                        number: 16,
+                        side: 0,
+                    });
+                }
+                Checked::Accepted {
+                    at,
+                    coords,
+                    runs,
+                    srid,
+                }
+            }
+        },
+    }
+}
+
+// The length of the segment from a to b.
+fn segment_length(a: Point, b: Point) -> f64
+    ensures { λ r. ⌜ r ≡ lengthOf (segment a b) ⌝ }
+{
+    primitives::norm(primitives::difference(b, a))
+}
+
+// One more segment measured.
+fn measure(m: Measured, a: Point, b: Point) -> Measured
+    ensures { λ r. ⌜ r ≡ measuring m (segment a b) ⌝ }
+{
+    let total = m.total + segment_length(a, b);
+    let start = if m.started { m.start } else { a };
+    Measured {
+        started: true,
+        start,
+        total,
+    }
+}
+
+// The segments of a line measured: its points are count from place first on.
+fn measure_line(from: Measured, floats: &[f64], first: usize, count: usize) -> Measured
+    requires { ⌜ floatsPerCoordinate * (first + count) ≤ length (now floats) ⌝ }
+    ensures { λ r. ⌜ r ≡ foldl measuring from (segmentsOfLine (pointsFrom (now (floats .entry)) first count)) ⌝ }
+{
+    let mut m = from;
+    let mut at = first;
+    let mut left = count;
+    while 1 < left {
+        m = measure(
+            m,
+            parts::point_at(floats, at),
+            parts::point_at(floats, at + 1),
+        );
+        at += 1;
+        left -= 1;
+    }
+    m
+}
+
+// All segments of a workspace measured, in order.
+fn measure_all(floats: &[f64], table: &[u32]) -> Measured
+    requires { ⌜ Laid (now table) (now floats) ⌝ }
+    ensures { λ r. ⌜ r ≡ foldl measuring notMeasured (segmentsOf (storedRuns (now (table .entry)) (now (floats .entry)))) ⌝ }
+{
+    let runs = parts::run_count(table);
+    let zero = Point {
+        x: 0.0,
+        y: 0.0,
+        z: 0.0,
+    };
+    let mut m = Measured {
+        started: false,
+        start: zero,
+        total: 0.0,
+    };
+    let mut at = 0;
+    let mut r = 0;
+    while r < runs {
+        let kind = parts::kind_at(table, r);
+        let count = parts::count_at(table, r);
+        if kind == LINE {
+            m = measure_line(m, floats, at, count);
+        }
+        at += count;
+        r += 1;
+    }
+    m
+}
+
+// The next segment looked at.
+fn look_at(w: Search, target: f64, a: Point, b: Point) -> Search
+    requires { ⌜ w .found ≡ false ⌝ }
+    ensures { λ r. ⌜ r ≡ searching target w (segment a b) ⌝ }
+{
+    let reached = w.reached + segment_length(a, b);
+    Search {
+        found: reached >= target,
+        walked: w.reached,
+        reached,
+        start: a,
+        end: b,
+    }
+}
+
+// The segments of a line looked at, until the search stops.
+fn search_line(from: Search, target: f64, floats: &[f64], first: usize, count: usize) -> Search
+    requires { ⌜ floatsPerCoordinate * (first + count) ≤ length (now floats) ⌝ }
+    ensures { λ r. ⌜ r ≡ foldl (searching target) from (segmentsOfLine (pointsFrom (now (floats .entry)) first count)) ⌝ }
+{
+    let mut w = from;
+    let mut at = first;
+    let mut left = count;
+    while 1 < left {
+        if w.found {
+            return w;
+        }
+        w = look_at(
+            w,
+            target,
+            parts::point_at(floats, at),
+            parts::point_at(floats, at + 1),
+        );
+        at += 1;
+        left -= 1;
+    }
+    w
+}
+
+// All segments of a workspace looked at, in order, until the search stops: at the last by position, if at none before.
+fn search_all(target: f64, floats: &[f64], table: &[u32]) -> Search
+    requires { ⌜ Laid (now table) (now floats) ⌝ }
+    ensures { λ r. ⌜ r ≡ foldl (searching target) notSearched (segmentsOf (storedRuns (now (table .entry)) (now (floats .entry)))) ⌝ }
+{
+    let runs = parts::run_count(table);
+    let zero = Point {
+        x: 0.0,
+        y: 0.0,
+        z: 0.0,
+    };
+    let mut w = Search {
+        found: false,
+        walked: 0.0,
+        reached: 0.0,
+        start: zero,
+        end: zero,
+    };
+    let mut at = 0;
+    let mut r = 0;
+    while r < runs {
+        let kind = parts::kind_at(table, r);
+        let count = parts::count_at(table, r);
+        if kind == LINE {
+            w = search_line(w, target, floats, at, count);
+        }
+        at += count;
+        r += 1;
+    }
+    w
+}
+
+// How far along a segment, as a part of its length.
+fn part(rest: f64, length: f64) -> f64
+    ensures { λ r. ⌜ r ≡ partOf rest length ⌝ }
+{
+    if length == 0.0 {
+        0.0
+    } else {
+        ieee754::clamp(rest / length)
+    }
+}
+
+// The point on the segment where the search stopped.
+fn point_on(target: f64, walked: f64, a: Point, b: Point) -> Point
+    ensures { λ r. ⌜ r ≡ pointOn target walked (segment a b) ⌝ }
+{
+    primitives::interpolated(a, b, part(target - walked, segment_length(a, b)))
+}
+
+// The point at a fraction of the total length of a workspace's segments.
+fn point_along(fraction: f64, floats: &[f64], table: &[u32]) -> Point
+    requires { ⌜ Laid (now table) (now floats) ⌝ }
+    requires { ⌜ 0 < length (segmentsOf (storedRuns (now table) (now floats))) ⌝ }
+    ensures { λ r. ⌜ interpolatedPoint fraction (segmentsOf (storedRuns (now (table .entry)) (now (floats .entry)))) ≡ some r ⌝ }
+{
+    let m = measure_all(floats, table);
+    if m.total == 0.0 {
+        return m.start;
+    }
+    let target = fraction * m.total;
+    let w = search_all(target, floats, table);
+    point_on(target, w.walked, w.start, w.end)
+}
+
+// The point of an accepted blob, once it is read into lent memory.
+fn read_point(
+    s: &[u8],
+    fraction: f64,
+    at: usize,
+    coords: usize,
+    runs: usize,
+    floats: &mut [f64],
+    table: &mut [u32],
+) -> Point
+    requires { ⌜ Ready (now s) at coords runs (length (now floats)) (length (now table)) ⌝ }
+    ensures { λ p. ⌜ PointRead (now (s .entry)) fraction (now (floats .entry)) (now (table .entry)) (now (floats .exit)) (now (table .exit)) p ⌝ }
+{
+    workspace::fill(s, at, floats, table);
+    let ordinates = FLOATS_PER_COORDINATE * coords;
+    let numbers = NUMBERS_PER_RUN * runs;
+    point_along(fraction, &floats[..ordinates], &table[..numbers])
+}
+
+// The point at a fraction of the length of a line, or of a collection's lines one after the other.
+pub fn st_3d_line_interpolate_point(
+    s: &[u8],
+    fraction: f64,
+    floats: &mut [f64],
+    table: &mut [u32],
+    output: &mut [u8],
+) -> Interpolated
+    ensures { λ r. ⌜ outcome (reportOf r) (now (floats .exit)) (now (table .exit)) (now (output .exit)) ≡ interpolationOutcome (now (s .entry)) fraction (now (floats .entry)) (now (table .entry)) (now (output .entry)) ⌝ }
+{
+    match check(s, fraction, floats.len(), table.len(), output.len()) {
+        Checked::Refused(refusal) => Interpolated::Refused(refusal),
+        Checked::Accepted {
+            at,
+            coords,
+            runs,
+            srid,
+        } => {
+            let p = read_point(s, fraction, at, coords, runs, floats, table);
+            gpb::write_point(output, srid, p.x, p.y, p.z);
+            Interpolated::Blob
+        }
+    }
+}
