@@ -1,4 +1,5 @@
 // One blob, read whole: what to lend for it, and its coordinates and runs into lent memory.
+// Undecided in its contracts is only the payload, sign included, of a NaN in the workspace.
 use coords::Counts;
 use gpb::Header;
 use refusals::Refusal;

@@ -1,4 +1,5 @@
 // The point at a fraction of a line's length: document 01's interpolation, for every input.
+// Undecided in its contracts is only the payload, sign included, of a NaN in the workspace; output bytes are wholly decided.
 use coords::Counts;
 use coords::ParsedHeader;
 use gpb::Header;

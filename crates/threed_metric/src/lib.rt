@@ -1,4 +1,5 @@
 // 3D measures between two blobs: document 01's operations, for every input.
+// Undecided in its contracts is only the payload, sign included, of a NaN in a workspace or in an answered number; output bytes are wholly decided.
 use closest::ClosestPair;
 use farthest::FarthestPair;
 use operands::Checked;

@@ -1,4 +1,5 @@
 // The filling pass of the walk: ordinates and runs into lent memory, once the checking pass has refused nothing.
+// Undecided in its contracts is only the payload, sign included, of a NaN in the floats.
 use coords::ParsedHeader;
 use coords::WkbHeader;
 use fields::f64_at;
