@@ -29,14 +29,14 @@ pub enum Interpolated {
 }
 
 // What a geometry holds: a point or face; neither, and where it ends; or members, and where the first is.
-pub enum Content {
+enum Content {
     PointOrFace,
     Neither { end: usize },
     Members { count: u32, first: usize },
 }
 
 // A call that refuses nothing: where the geometry starts, its coordinates and runs, the SRID's bits; or the refusal.
-pub enum Checked {
+enum Checked {
     Accepted {
         at: usize,
         coords: usize,
@@ -47,14 +47,14 @@ pub enum Checked {
 }
 
 // The first segment's start, once there is one, and the lengths added so far.
-pub struct Measured {
+struct Measured {
     pub started: bool,
     pub start: Point,
     pub total: f64,
 }
 
 // The segment looked at, what is walked before and after it, and whether the search stops there.
-pub struct Search {
+struct Search {
     pub found: bool,
     pub walked: f64,
     pub reached: f64,

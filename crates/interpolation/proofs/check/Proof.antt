@@ -1,5 +1,6 @@
 -- `check` meets its contract. Assumes nothing.
 use Rattle.interpolation.proofs.Order.{by-fraction, by-header, header-read, counted-at, by-walk, by-line, by-room, by-output, by-none}
+use native.Mathlib.Omega.{arith}
 use borrow.Author.Needs.{needs}
 use Rattle.interpolation.proofs.check.Statement.{statement}
 use Rattle.interpolation.proofs.check.Tie as tie
@@ -49,7 +50,7 @@ returns-3 c =
 returns-4 : tie.Need-returns-4
 returns-4 c =
     let start = c .before .before .before .before .before .before .before .before .before .before .before .before .before .before .before .before in
-    by-output (start .args .s .now) (start .args .fraction) (start .args .floats) (start .args .numbers) (start .args .output) _ (c .before .before .before .before .before .before .before .before .before .before .before .before .before .before .out-of-range .ensures) (c .before .before .before .before .before .before .before .before .before .before .before .before .before .if1 .left) _ _ (header-read (start .args .s .now) _ _ _ _ (c .before .before .before .before .before .before .before .before .before .before .before .before .read-header .ensures) ((c .before .before .before .before .before .before .before .before .before .before .at .given) .1)) _ (c .before .before .before .before .before .before .before .before .count .ensures) _ _ _ ((c .before .before .before .before .before .before .coords .given) .1) _ (c .before .before .before .before .is-no-line .ensures) (c .before .before .before .if2 .left) _ (c .before .before .too-small .ensures) (c .before .if3 .left) (c .if4 .taken)
+    by-output (start .args .s .now) (start .args .fraction) (start .args .floats) (start .args .numbers) (start .args .output) _ (c .before .before .before .before .before .before .before .before .before .before .before .before .before .before .out-of-range .ensures) (c .before .before .before .before .before .before .before .before .before .before .before .before .before .if1 .left) _ _ (header-read (start .args .s .now) _ _ _ _ (c .before .before .before .before .before .before .before .before .before .before .before .before .read-header .ensures) ((c .before .before .before .before .before .before .before .before .before .before .at .given) .1)) _ (c .before .before .before .before .before .before .before .before .count .ensures) _ _ _ ((c .before .before .before .before .before .before .coords .given) .1) _ (c .before .before .before .before .is-no-line .ensures) (c .before .before .before .if2 .left) _ (c .before .before .too-small .ensures) (c .before .if3 .left) (omega (arith, c .if4 .taken))
 
 returns-5 : tie.Need-returns-5
 returns-5 c =
@@ -64,7 +65,7 @@ returns-6 c =
 returns-7 : tie.Need-returns-7
 returns-7 c =
     let start = c .before .before .before .before .before .before .before .before .before .before .before .before .before .before .before .before in
-    by-none (start .args .s .now) (start .args .fraction) (start .args .floats) (start .args .numbers) (start .args .output) _ (c .before .before .before .before .before .before .before .before .before .before .before .before .before .before .out-of-range .ensures) (c .before .before .before .before .before .before .before .before .before .before .before .before .before .if1 .left) _ _ (header-read (start .args .s .now) _ _ _ _ (c .before .before .before .before .before .before .before .before .before .before .before .before .read-header .ensures) ((c .before .before .before .before .before .before .before .before .before .before .at .given) .1)) _ (c .before .before .before .before .before .before .before .before .count .ensures) _ _ _ ((c .before .before .before .before .before .before .coords .given) .1) _ (c .before .before .before .before .is-no-line .ensures) (c .before .before .before .if2 .left) _ (c .before .before .too-small .ensures) (c .before .if3 .left) (c .if4 .left)
+    by-none (start .args .s .now) (start .args .fraction) (start .args .floats) (start .args .numbers) (start .args .output) _ (c .before .before .before .before .before .before .before .before .before .before .before .before .before .before .out-of-range .ensures) (c .before .before .before .before .before .before .before .before .before .before .before .before .before .if1 .left) _ _ (header-read (start .args .s .now) _ _ _ _ (c .before .before .before .before .before .before .before .before .before .before .before .before .read-header .ensures) ((c .before .before .before .before .before .before .before .before .before .before .at .given) .1)) _ (c .before .before .before .before .before .before .before .before .count .ensures) _ _ _ ((c .before .before .before .before .before .before .coords .given) .1) _ (c .before .before .before .before .is-no-line .ensures) (c .before .before .before .if2 .left) _ (c .before .before .too-small .ensures) (c .before .if3 .left) (omega (arith, c .if4 .left))
 
 pub check-spec : {M : Type 1} → statement M
 check-spec =

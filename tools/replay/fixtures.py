@@ -1,0 +1,402 @@
+"""Writes crates/replay/data/fixtures: document 01's fixtures 4 to 14 and other calls, with the answers written by hand.
+
+    fixtures.py            writes the file
+    fixtures.py --list     prints the number, operation and name of each record
+"""
+import math
+import pathlib
+import sys
+
+sys.dont_write_bytecode = True
+
+from records import NO_SURFACE, NOTHING, YES, Call, Expected, blob, number, positions, refused
+from shapes import *
+
+CALLS = []
+NONE = Shape(b"")
+NAN, INF, LEAST = math.nan, math.inf, 5e-324
+TAKES_NUMBER = ("dwithin", "dfully_within", "line_interpolate_point", "patch")
+
+
+def below(x):
+    return math.nextafter(x, -INF)
+
+
+def above(x):
+    return math.nextafter(x, INF)
+
+
+def expected(answer, srid):
+    """None, True or False, a number, one coordinate (a point), two (a line), or what is an Expected already."""
+    if isinstance(answer, Expected):
+        return answer
+    if answer is None or answer is False:
+        return NOTHING
+    if answer is True:
+        return YES
+    if isinstance(answer, tuple):
+        return blob(srid, answer if isinstance(answer[0], tuple) else (answer,))
+    return number(answer)
+
+
+def calls(name, a, b, *, srid=0, more=(0, 0, 0, 0, 0), **answers):
+    """A call for each operation named; of one that takes a number, for each pair of a number and an answer."""
+    for operation, answer in answers.items():
+        pairs = answer if operation in TAKES_NUMBER else [(0.0, answer)]
+        for argument, one in pairs:
+            CALLS.append(Call(name, operation, a, b, argument, expected(one, srid), more))
+
+
+def refusals(name, a, b, number, side, **options):
+    """The same refusal from every operation on two blobs."""
+    r = refused(number, side)
+    calls(
+        name, a, b, distance=r, max_distance=r, dwithin=[(1.0, r)], dfully_within=[(1.0, r)], intersects=r,
+        closest_point=r, shortest_line=r, longest_line=r, **options,
+    )
+
+
+def nothings(name, a, b):
+    """None and no from every operation on two blobs, however far."""
+    calls(
+        name, a, b, distance=None, max_distance=None, dwithin=[(INF, False)], dfully_within=[(INF, False)],
+        intersects=False, closest_point=None, shortest_line=None, longest_line=None,
+    )
+
+
+ORIGIN = point(0, 0, 0)
+FAR = point(3, 4, 12)
+XY = point_of_type(1, (1, 2), (1, 2, 0))
+TRIANGLE = [(0, 0, 0), (4, 0, 0), (0, 4, 0)]
+ROOT_5, ROOT_11, ROOT_14 = math.sqrt(5), math.sqrt(11), math.sqrt(14)
+
+
+def worked_examples():
+    calls(
+        "4", ORIGIN, FAR, distance=13, max_distance=13, dwithin=[(13, True), (below(13), False)],
+        dfully_within=[(13, True), (below(13), False)], intersects=False, closest_point=(0, 0, 0),
+        shortest_line=((0, 0, 0), (3, 4, 12)), longest_line=((0, 0, 0), (3, 4, 12)),
+    )
+    high, segment = point(0, 0, 5), line((0, 0, 0), (0, 0, 2))
+    calls(
+        "5", high, segment, distance=3, max_distance=5, intersects=False, closest_point=(0, 0, 5),
+        shortest_line=((0, 0, 5), (0, 0, 2)), longest_line=((0, 0, 5), (0, 0, 0)),
+    )
+    calls(
+        "5, sides exchanged", segment, high, distance=3, max_distance=5, closest_point=(0, 0, 2),
+        shortest_line=((0, 0, 2), (0, 0, 5)), longest_line=((0, 0, 0), (0, 0, 5)),
+    )
+    calls(
+        "6", line((0, 0, 0), (4, 0, 0)), line((2, -1, 3), (2, 1, 3)), distance=3, max_distance=ROOT_14,
+        closest_point=(2, 0, 0), shortest_line=((2, 0, 0), (2, 0, 3)), longest_line=((0, 0, 0), (2, -1, 3)),
+    )
+    away = line((1, 0, 0), (2, 0, 0))
+    calls(
+        "7", line((0, 0, 0), (2**-26, 0, 0)), away, distance=1, max_distance=2, closest_point=(0, 0, 0),
+        shortest_line=((0, 0, 0), (1, 0, 0)), longest_line=((0, 0, 0), (2, 0, 0)),
+    )
+    calls("7, twice as long", line((0, 0, 0), (2**-25, 0, 0)), away, distance=1 - 2**-25, max_distance=2)
+    through = line((1, 1, -1), (1, 1, 1))
+    for kind in (3, 17):
+        calls(
+            "8", through, face(TRIANGLE, kind=kind), distance=1, intersects=False, max_distance=ROOT_11,
+            dwithin=[(1, True), (below(1), False)], longest_line=((1, 1, -1), (4, 0, 0)),
+        )
+    calls(
+        "8, sides exchanged", face(TRIANGLE), through, distance=1, intersects=False, max_distance=ROOT_11,
+        longest_line=((4, 0, 0), (1, 1, -1)),
+    )
+
+
+def ties():
+    a, b = points((0, 0, 0), (1, 0, 0)), points((0, 0, 2), (1, 0, 2))
+    calls(
+        "9", a, b, distance=2, max_distance=ROOT_5, closest_point=(0, 0, 0),
+        shortest_line=((0, 0, 0), (0, 0, 2)), longest_line=((0, 0, 0), (1, 0, 2)),
+    )
+    whole = bytes.fromhex("47 50 00 01 E6 10 00 00 01 EA 03 00 00 02 00 00 00") + bytes(24)
+    whole += bytes.fromhex("00 00 00 00 00 00 F0 3F") + bytes(8) + bytes.fromhex("00 00 00 00 00 00 00 40")
+    calls("9 with SRID 4326", gp(a, 4326), b, longest_line=Expected(1, written=whole))
+    calls(
+        "9 of lines", line((0, 0, 0), (1, 0, 0)), line((0, 0, 2), (1, 0, 2)), distance=2, max_distance=ROOT_5,
+        longest_line=((0, 0, 0), (1, 0, 2)),
+    )
+    # 1 + 2^-52 is a greater sum of squares than 1, and its root is 1
+    one, more = (1, 0, 0), (1, 2**-26, 0)
+    calls(
+        "equal roots of unequal sums", ORIGIN, points(one, more), distance=1, max_distance=1,
+        shortest_line=((0, 0, 0), one), longest_line=((0, 0, 0), one),
+    )
+    calls(
+        "equal roots of unequal sums, the greater first", ORIGIN, points(more, one), distance=1, max_distance=1,
+        shortest_line=((0, 0, 0), more), longest_line=((0, 0, 0), more),
+    )
+
+
+def skips():
+    """Where the closest sweep's skip shows: interpolation at t = 1 passes the segment's end."""
+    one = point(1, 0, 0)
+    near = collection(point(0.1, 0, 0), line((-3, 0, 0), (0.1, 0, 0)))
+    calls(
+        "a segment not skipped", one, near, distance=0.8999999999999999, max_distance=4, intersects=False,
+        dwithin=[(0.8999999999999999, True), (0.8999999999999998, False)], closest_point=(1, 0, 0),
+        shortest_line=((1, 0, 0), (0.10000000000000009, 0, 0)), longest_line=((1, 0, 0), (-3, 0, 0)),
+    )
+    long = collection(point(0.10000000000001, 0, 0), line((-1000, 0, 0), (0.1, 0, 0)))
+    calls(
+        "a segment skipped", one, long, distance=0.89999999999999, max_distance=1001, intersects=False,
+        dwithin=[(0.89999999999999, True), (0.8999999999999773, False)], closest_point=(1, 0, 0),
+        shortest_line=((1, 0, 0), (0.10000000000001, 0, 0)), longest_line=((1, 0, 0), (-1000, 0, 0)),
+    )
+
+
+def short_runs():
+    alone = line((1, 2, 3))
+    nothings("11", alone, ORIGIN)
+    nothings("11, sides exchanged", ORIGIN, alone)
+    nothings("11 on both sides", alone, alone)
+    nothings("an empty line", line(), ORIGIN)
+    nothings("an empty collection", ORIGIN, collection())
+    calls(
+        "a one-point line beside a point", collection(line((5, 0, 0)), point(1, 0, 0)), ORIGIN, distance=1,
+        max_distance=1, shortest_line=((1, 0, 0), (0, 0, 0)), longest_line=((1, 0, 0), (0, 0, 0)),
+    )
+    two, up = face([(0, 0, 0), (1, 0, 0)]), point(0, 0, 2)
+    calls(
+        "12", two, up, distance=None, dwithin=[(INF, False)], intersects=False, closest_point=None,
+        shortest_line=None, max_distance=ROOT_5, dfully_within=[(ROOT_5, True), (below(ROOT_5), False)],
+        longest_line=((1, 0, 0), (0, 0, 2)),
+    )
+    calls(
+        "12, sides exchanged", up, two, distance=None, dwithin=[(INF, False)], intersects=False,
+        closest_point=None, shortest_line=None, max_distance=ROOT_5, longest_line=((0, 0, 2), (1, 0, 0)),
+    )
+    calls("a one-vertex face", face([(0, 0, 0)]), up, distance=None, max_distance=2)
+    hole = face([(0, 0, 0), (9, 0, 0), (0, 9, 0)], [(1, 1, 0), (2, 1, 0), (1, 2, 0)])
+    calls(
+        "a hole is filled", point(1.25, 1.25, 3), hole, distance=3, max_distance=math.sqrt(70.625),
+        longest_line=((1.25, 1.25, 3), (9, 0, 0)),
+    )
+
+
+def odd_ordinates():
+    nan = point(NAN, 0, 0)
+    calls(
+        "13", nan, ORIGIN, distance=NAN, max_distance=NAN, dwithin=[(INF, False)], dfully_within=[(INF, False)],
+        intersects=False, closest_point=(NAN, 0, 0), shortest_line=((NAN, 0, 0), (0, 0, 0)),
+        longest_line=((NAN, 0, 0), (0, 0, 0)),
+    )
+    calls(
+        "13, sides exchanged", ORIGIN, nan, distance=NAN, max_distance=NAN, closest_point=(0, 0, 0),
+        shortest_line=((0, 0, 0), (NAN, 0, 0)), longest_line=((0, 0, 0), (NAN, 0, 0)),
+    )
+    payload = Shape(head(1) + bytes.fromhex("010203040506F7FF") + bytes(16), nan.runs)
+    calls(
+        "13 with another payload", payload, ORIGIN, distance=NAN, max_distance=NAN,
+        shortest_line=((NAN, 0, 0), (0, 0, 0)), longest_line=((NAN, 0, 0), (0, 0, 0)),
+    )
+    calls("NaN taken first stays", points((NAN, 0, 0), (5, 0, 0)), ORIGIN, distance=NAN, max_distance=NAN)
+    calls("NaN is not taken later", points((5, 0, 0), (NAN, 0, 0)), ORIGIN, distance=5, max_distance=5)
+    calls("infinity", point(-INF, 0, 0), ORIGIN, distance=INF, max_distance=INF, dfully_within=[(INF, True)])
+    calls("the same infinity", point(INF, 0, 0), point(INF, 0, 0), distance=NAN, max_distance=NAN)
+    calls("a square above all", point(1e200, 0, 0), ORIGIN, distance=INF, max_distance=INF)
+    calls("a square below all", point(0, LEAST, 0), ORIGIN, distance=0, max_distance=0, intersects=True)
+    flat = face([(NAN, 0, 0), (NAN, 1, 0), (NAN, 0, 1)])
+    calls("a face of NaN and a face", flat, face(TRIANGLE), distance=INF)
+    calls("a face of NaN and a point", flat, ORIGIN, distance=NAN)
+
+
+def levels():
+    at = point(1, 2, 3)
+    calls(
+        "14, level 32", nested(32, at), at, distance=0, intersects=True, max_distance=0,
+        dfully_within=[(0, True)], longest_line=((1, 2, 3), (1, 2, 3)),
+    )
+    calls("14, level 32 on side 2", at, nested(32, at), distance=0, max_distance=0)
+    calls("14, level 32", nested(32, at), NONE, sizes=positions(3, 2))
+    refusals("14, level 33", nested(33, at), at, 12, 1)
+    refusals("14, level 33 on side 2", at, nested(33, at), 12, 2)
+    refusals("14, level 33 on both sides", nested(33, at), nested(33, at), 12, 1)
+    calls("14, level 33", nested(33, at), NONE, sizes=refused(12, 1))
+
+
+def distances():
+    at = point(1, 2, 3)
+    rows = [(0.0, True), (-0.0, True), (NAN, False), (INF, True)]
+    rows += [(d, refused(1, 0)) for d in (-LEAST, -1.0, -INF)]
+    calls("d", at, at, dwithin=rows, dfully_within=rows)
+    below_zero = [(-1.0, refused(1, 0))]
+    calls("d before all else", NONE, raw("4750"), dwithin=below_zero, dfully_within=below_zero)
+    calls("d before 15", at, at, dwithin=below_zero, dfully_within=below_zero, more=(-3, -2, -3, -2, 0))
+
+
+def srids():
+    lines = dict(
+        closest_point=(0, 0, 0), shortest_line=((0, 0, 0), (3, 4, 12)), longest_line=((0, 0, 0), (3, 4, 12)),
+    )
+    calls("SRID 0, and B's another", gp(ORIGIN, 0), gp(FAR, 4326), srid=0, **lines)
+    calls("no SRID, and B's another", ORIGIN, gp(FAR, 4326), srid=0, **lines)
+    calls("A's SRID", gp(ORIGIN, 4326), gp(FAR, 25832), srid=4326, **lines)
+    calls("a negative SRID", gp(ORIGIN, -1), FAR, srid=-1, **lines)
+    calls("an SRID written big-endian", gp(ORIGIN, 4326, flags=0), FAR, srid=4326, **lines)
+    calls("the EWKB SRID", with_srid(ORIGIN, 4326), FAR, srid=4326, **lines)
+    calls("the header's SRID, not the EWKB one", gp(with_srid(ORIGIN, 4326), 0), FAR, srid=0, **lines)
+    for indicator, count in enumerate((0, 4, 6, 6, 8)):
+        a = gp(ORIGIN, 7, flags=1 + 2 * indicator, envelope=b"\xFF" * 8 * count)
+        calls("an envelope", a, followed(FAR, b"after"), srid=7, **lines)
+    calls("the empty flag", gp(ORIGIN, 7, flags=0x11), FAR, srid=7, **lines)
+
+
+def lent_memory():
+    a, b = line((0, 0, 0), (1, 0, 0)), points((0, 0, 2), (1, 0, 2))
+    answers = dict(max_distance=ROOT_5, distance=2, longest_line=((0, 0, 0), (1, 0, 2)))
+    calls("more lent than needed", a, b, more=(5, 3, 2, 1, 9), **answers)
+    for place in range(4):
+        short = tuple(-1 if i == place else 2 for i in range(5))
+        refusals("one too few lent", a, b, 15, 1 + place // 2, more=short)
+    refusals("both sides short", a, b, 15, 1, more=(0, -1, -1, 0, 0))
+    refusals("15 before 16", a, b, 15, 2, more=(0, 0, 0, -1, -1))
+    none = line((1, 2, 3))
+    for operation in ("closest_point", "shortest_line", "longest_line"):
+        for more in (-1, -1000):
+            calls("16", a, b, more=(0, 0, 0, 0, more), **{operation: refused(16, 0)})
+        calls("16 where the answer is none", none, b, more=(0, 0, 0, 0, -1), **{operation: refused(16, 0)})
+
+
+# a blob, and the number with which it is refused as either side
+FAULTS = [
+    (raw("4750"), 3), (raw("47500001E61000"), 3), (gp(ORIGIN, version=1), 4), (gp(ORIGIN, version=1, flags=0xFF), 4),
+    (gp(ORIGIN, flags=0x21), 5), (gp(ORIGIN, flags=0xFF), 5), (gp(ORIGIN, flags=0x41), 6), (gp(ORIGIN, flags=0xDF), 6),
+    (gp(ORIGIN, flags=0x0B), 7), (gp(ORIGIN, flags=0x0D), 7), (gp(ORIGIN, flags=0x0F), 7),
+    (raw("4750000300000000" + 31 * "00"), 8), (raw("4750000300000000" + 32 * "00"), 9), (gp(NONE), 9), (NONE, 9),
+    (raw("47"), 9), (raw("02"), 9), (raw("01E90300"), 9), (raw("02E9030000"), 10), (cut(FAR, 1), 9),
+    (cut(line((0, 0, 0), (1, 0, 0)), 24), 9), (cut(face(TRIANGLE), 1), 9), (cut(with_srid(ORIGIN, 1), 25), 9),
+    (raw("01EA030000FFFFFFFF"), 9), (raw("01F0030000"), 11), (raw("01E8030000"), 11), (raw("01FA030000"), 11),
+    (raw("01F0030020"), 9), (collection(raw("02E9030000")), 10), (collection(raw("01F0030000")), 11),
+    (cut(collection(FAR, FAR), 29), 9), (nested(33, FAR), 12),
+]
+# fails the top Z test
+FLAT = [
+    XY, point_of_type(2001, (1, 2, 7), (1, 2, 0)), point_of_type(0x40000001, (1, 2, 7), (1, 2, 0)),
+    point_of_type(4001, (1, 2), (1, 2, 0)), Shape(b"\x01" + u32(7) + u32(1) + FAR.data, FAR.runs),
+]
+# passes it, and is read as (1, 2, 3) or (1, 2, 0)
+WITH_Z = [
+    (0x80000001, (1, 2, 3), 3), (0x80000000 + 2001, (1, 2, 7), 0), (3001, (1, 2, 3, 9), 3), (0xC0000001, (1, 2, 3, 9), 3),
+    (0x40000000 + 1001, (1, 2, 3), 3), (0x80000000 + 4001, (1, 2, 3), 3), (0x80000000 + 1001, (1, 2, 3), 3),
+]
+
+
+def faults():
+    for shape, number in FAULTS:
+        for side in (1, 2):
+            a, b = (shape, FAR) if side == 1 else (FAR, shape)
+            r = refused(number, side)
+            calls("a fault", a, b, distance=r, max_distance=r, longest_line=r)
+        calls("a fault", shape, NONE, sizes=refused(number, 1))
+    for shape in FLAT:
+        refusals("no Z", shape, FAR, 13, 1)
+        refusals("no Z on side 2", FAR, shape, 13, 2)
+        calls("no Z", shape, NONE, sizes=positions(3, 2))
+    for code, ordinates, z in WITH_Z:
+        shape = point_of_type(code, ordinates, (1, 2, z))
+        calls("Z by its type", shape, point(1, 2, z), distance=0, max_distance=0, intersects=True)
+
+
+def order_of_refusals():
+    unknown = raw("01F0030000")
+    refusals("header 2 before walk 1", unknown, raw("4750"), 3, 2)
+    refusals("13 of side 2 before walk 1", nested(33, FAR), XY, 13, 2)
+    refusals("header 1 before header 2", XY, raw("4750"), 13, 1)
+    refusals("walk 1 before walk 2", nested(33, FAR), cut(FAR, 1), 12, 1)
+    refusals("walk 1 before walk 2, either way", cut(FAR, 1), nested(33, FAR), 9, 1)
+    refusals("walk 2 before 15", FAR, cut(FAR, 1), 9, 2, more=(-3, -2, 0, 0, 0))
+
+
+def interpolations():
+    back = line((0, 0, 0), (2, 0, 0), (0, 0, 0), (2, 0, 0))
+    outside = [(x, refused(2, 0)) for x in (NAN, -LEAST, above(1), INF, -INF)]
+    rows = [(0.5, (1, 0, 0)), (0.0, (0, 0, 0)), (-0.0, (0, 0, 0)), (1.0, (2, 0, 0)), (0.25, (1.5, 0, 0))]
+    calls("10", back, NONE, line_interpolate_point=rows + outside)
+    calls("2 before all else", raw("4750"), NONE, line_interpolate_point=outside, more=(0, 0, 0, 0, -37))
+    two = collection(line((0, 0, 0), (2, 0, 0)), line((10, 0, 0), (12, 0, 0)))
+    calls("two lines", two, NONE, line_interpolate_point=[(0.75, (11, 0, 0)), (0.5, (2, 0, 0))])
+    calls("length 0", line((3, 1, 2), (3, 1, 2)), NONE, line_interpolate_point=[(0.75, (3, 1, 2))])
+    calls("NaN", line((0, 0, 0), (NAN, 0, 0)), NONE, line_interpolate_point=[(0.5, (NAN, NAN, NAN))])
+    flat = Shape(b"\x01" + u32(2) + u32(2) + doubles([(0, 0), (2, 0)]), ((2, ((0, 0, 0), (2, 0, 0))),))
+    calls("no Z is needed", flat, NONE, line_interpolate_point=[(0.5, (1, 0, 0))])
+    calls("A's SRID", gp(back, 4326), NONE, srid=4326, line_interpolate_point=[(0.5, (1, 0, 0))])
+    segment = line((0, 0, 0), (2, 0, 0))
+    for shape in (ORIGIN, face(TRIANGLE), line((1, 2, 3)), line(), collection(), collection(segment, ORIGIN)):
+        calls("14", shape, NONE, line_interpolate_point=[(0.5, refused(14, 1))])
+    calls("14 before 15", ORIGIN, NONE, line_interpolate_point=[(0.5, refused(14, 1))], more=(-1, 0, 0, 0, 0))
+    for place in range(2):
+        short = tuple(-1 if i == place else 2 for i in range(5))
+        calls("one too few lent", segment, NONE, line_interpolate_point=[(0.5, refused(15, 1))], more=short)
+    calls("15 before 16", segment, NONE, line_interpolate_point=[(0.5, refused(15, 1))], more=(-1, 0, 0, 0, -1))
+    calls("16", segment, NONE, line_interpolate_point=[(0.5, refused(16, 0))], more=(0, 0, 0, 0, -1))
+    calls("more lent than needed", segment, NONE, line_interpolate_point=[(0.5, (1, 0, 0))], more=(2, 1, 0, 0, 5))
+    calls("14, level 32", nested(32, segment), NONE, line_interpolate_point=[(0.5, (1, 0, 0))])
+    calls("14, level 33", nested(33, segment), NONE, line_interpolate_point=[(0.5, refused(12, 1))])
+    for shape, number in FAULTS:
+        calls("a fault", shape, NONE, line_interpolate_point=[(0.5, refused(number, 1))])
+
+
+def patches():
+    first, second = face(TRIANGLE), face(TRIANGLE + TRIANGLE[:1], TRIANGLE)
+    ends = [9, 9 + len(first.data), 9 + len(first.data) + len(second.data)]
+    for kind in (15, 16):
+        surface = collection(first, second, kind=kind)
+        for shape, before in ((surface, 0), (gp(surface), 8), (with_srid(surface, 4326), 4)):
+            rows = [(n, positions(before + ends[n], before + ends[n + 1])) for n in (0, 1)]
+            calls("a surface", shape, NONE, patch=rows + [(2, NOTHING), (2**64 - 1, NOTHING)])
+        calls("a surface cut off", cut(surface, 1), NONE, patch=[(n, refused(9, 1)) for n in (0, 1, 2)])
+        calls("no count", Shape(surface.data[:5]), NONE, patch=[(0, refused(9, 1))])
+        calls("an empty surface", collection(kind=kind), NONE, patch=[(0, NOTHING)])
+        bad = collection(first, raw("02EB03000000000000"), kind=kind)
+        calls("a patch of byte order 2", bad, NONE, patch=[(0, refused(10, 1)), (1, refused(10, 1))])
+    triangle = face(TRIANGLE, kind=17)
+    for shape, start in (
+        (triangle, 0), (gp(triangle), 8), (followed(triangle, b"after"), 0), (cut(triangle, 70), 0), (raw("01F9030000"), 0),
+    ):
+        calls("a triangle", shape, NONE, patch=[(0, positions(start, len(shape.data))), (1, NOTHING)])
+    others = [FAR, line((0, 0, 0), (1, 0, 0)), first, points((1, 2, 3)), collection(first), raw("01F0030000")]
+    for shape in others + [gp(triangle, version=1), gp(triangle, flags=0x21), raw("4750"), raw("02F7030000"), NONE]:
+        calls("no surface", shape, NONE, patch=[(0, NO_SURFACE), (1, NO_SURFACE)])
+
+
+def lengths():
+    for name, shape, floats, numbers in [
+        ("a point", FAR, 3, 2), ("an empty line", line(), 0, 0), ("a one-point line", line((1, 2, 3)), 3, 2),
+        ("two rings", face(TRIANGLE, TRIANGLE[:2]), 15, 4), ("an empty ring", face(TRIANGLE, []), 9, 2),
+        ("points", points((1, 2, 3), (4, 5, 6)), 6, 4), ("an empty collection", collection(), 0, 0),
+        ("GP", gp(collection(FAR, line((0, 0, 0), (1, 0, 0)))), 9, 4), ("bytes after", followed(FAR, b"after"), 3, 2),
+    ]:
+        calls(name, shape, NONE, sizes=positions(floats, numbers))
+
+
+def main():
+    worked_examples()
+    ties()
+    skips()
+    short_runs()
+    odd_ordinates()
+    levels()
+    distances()
+    srids()
+    lent_memory()
+    faults()
+    order_of_refusals()
+    patches()
+    lengths()
+    if sys.argv[1:] == ["--list"]:
+        for i, call in enumerate(CALLS):
+            print(i, call.operation, call.name)
+        return
+    here = pathlib.Path(__file__).resolve().parent
+    path = here.parent.parent / "crates" / "replay" / "data" / "fixtures"
+    path.write_bytes(b"".join(call.record() for call in CALLS))
+    print(len(CALLS), "records written")
+
+
+main()
