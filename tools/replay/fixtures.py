@@ -282,8 +282,9 @@ FLAT = [
 ]
 # passes it, and is read as (1, 2, 3) or (1, 2, 0)
 WITH_Z = [
-    (0x80000001, (1, 2, 3), 3), (0x80000000 + 2001, (1, 2, 7), 0), (3001, (1, 2, 3, 9), 3), (0xC0000001, (1, 2, 3, 9), 3),
-    (0x40000000 + 1001, (1, 2, 3), 3), (0x80000000 + 4001, (1, 2, 3), 3), (0x80000000 + 1001, (1, 2, 3), 3),
+    (0x80000001, (1, 2, 3), 3), (0x80000000 + 2001, (1, 2, 7), 0), (3001, (1, 2, 3, 9), 3),
+    (0xC0000001, (1, 2, 3, 9), 3), (0x40000000 + 1001, (1, 2, 3), 3), (0x80000000 + 4001, (1, 2, 3), 3),
+    (0x80000000 + 1001, (1, 2, 3), 3),
 ]
 
 
@@ -357,7 +358,8 @@ def patches():
         calls("a patch of byte order 2", bad, NONE, patch=[(0, refused(10, 1)), (1, refused(10, 1))])
     triangle = face(TRIANGLE, kind=17)
     for shape, start in (
-        (triangle, 0), (gp(triangle), 8), (followed(triangle, b"after"), 0), (cut(triangle, 70), 0), (raw("01F9030000"), 0),
+        (triangle, 0), (gp(triangle), 8), (followed(triangle, b"after"), 0), (cut(triangle, 70), 0),
+        (raw("01F9030000"), 0),
     ):
         calls("a triangle", shape, NONE, patch=[(0, positions(start, len(shape.data))), (1, NOTHING)])
     others = [FAR, line((0, 0, 0), (1, 0, 0)), first, points((1, 2, 3)), collection(first), raw("01F0030000")]
@@ -387,6 +389,7 @@ def main():
     lent_memory()
     faults()
     order_of_refusals()
+    interpolations()
     patches()
     lengths()
     if sys.argv[1:] == ["--list"]:

@@ -4,6 +4,8 @@ use blob::Sizes;
 use blob::blob_sizes;
 use ieee754::from_pattern;
 use ieee754::to_pattern;
+use interpolation::Interpolated;
+use interpolation::st_3d_line_interpolate_point;
 use refusals::Refusal;
 use surface::PatchRange;
 use surface::patch_range;
@@ -237,6 +239,13 @@ fn reply_of_sizes(x: Sizes) -> Reply {
     }
 }
 
+fn reply_of_interpolated(x: Interpolated) -> Reply {
+    match x {
+        Interpolated::Blob => plain(ANSWERED),
+        Interpolated::Refused(r) => refused(r),
+    }
+}
+
 fn reply_of_patch(x: PatchRange) -> Reply {
     match x {
         PatchRange::Part { start, end } => answered(start as u64, end as u64),
@@ -287,6 +296,7 @@ fn call(
     let x = from_pattern(argument);
     let operation = word(r, OPERATION);
     match operation {
+        8 => reply_of_interpolated(st_3d_line_interpolate_point(a, x, floats1, table1, output)),
         9 => reply_of_patch(patch_range(a, argument)),
         10 => reply_of_sizes(blob_sizes(a)),
         _ => call_two(operation, a, b, x, floats1, table1, floats2, table2, output),
@@ -547,6 +557,7 @@ fn main() {
     replay_file(b"closest_point");
     replay_file(b"shortest_line");
     replay_file(b"longest_line");
+    replay_file(b"line_interpolate_point");
     replay_file(b"patch");
     replay_file(b"sizes");
     replay_file(b"fixtures");
