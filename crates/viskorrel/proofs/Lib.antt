@@ -1,0 +1,2 @@
+-- What an export returns, from what its operation did.
+pub mod Returned

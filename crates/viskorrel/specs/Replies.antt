@@ -1,0 +1,84 @@
+-- What C reads of an answer: a case, the table's number and side, and a value (document 01, "What the operations say"; the cases are this interface's). Definitions only.
+use Prim.Native.Nat.{ℕ}
+use mathlib.Core.Bool.{cond}
+use mathlib.Core.List.{List, []}
+use lib.Ieee.{Float}
+use Rattle.ieee754.specs.MinMax.{positiveZero}
+use Rattle.blob.specs.declared.Sizes.{Sizes}
+use Rattle.blob.specs.declared.Sizes.the-variants as sizes
+use Rattle.interpolation.specs.Operation as interpolation
+use Rattle.operands.specs.Operands.{Workspaces, workspaces}
+use Rattle.surface.specs.Patches.{Patch}
+use Rattle.surface.specs.Patches as patch
+use Rattle.threed_metric.specs.Answers.{Value, number, decided, blob, nothing, Report, answering, refused}
+use Rattle.threed_metric.specs.Operations.{Outcome, outcome}
+use Rattle.viskorrel.specs.declared.Reply.{Reply}
+use Rattle.viskorrel.specs.declared.PairReply.{PairReply}
+
+-- ---- a number, a decision or a blob
+
+-- case 0: nothing, or no
+abbrev pub replyNothing : Reply
+replyNothing = record { case = 0; number = 0; side = 0; value = positiveZero }
+
+-- case 1: a number, or yes, or a blob in the output; 0 where there is no number
+abbrev pub replyAnswered : Float → Reply
+replyAnswered d = record { case = 1; number = 0; side = 0; value = d }
+
+-- case 2: a refusal, with the table's number and side
+abbrev pub replyRefused : ℕ → ℕ → Reply
+replyRefused n side = record { case = 2; number = n; side = side; value = positiveZero }
+
+unfoldable pub replyOfValue : Value → Reply
+replyOfValue (number d) = replyAnswered d
+replyOfValue (decided b) = cond b (replyAnswered positiveZero) replyNothing
+replyOfValue blob = replyAnswered positiveZero
+replyOfValue nothing = replyNothing
+
+unfoldable pub replyOf : Report → Reply
+replyOf (answering v) = replyOfValue v
+replyOf (refused n side) = replyRefused n side
+
+-- what a call returns and leaves: a reply, both workspaces, the output
+pub record Returned : Type 0 where
+  pub reply : Reply
+  pub memory : Workspaces
+  pub output : List ℕ
+
+abbrev pub returned : Reply → Workspaces → List ℕ → Returned
+returned r w output = record { reply = r; memory = w; output = output }
+
+-- an operation's outcome, as C has it
+unfoldable pub returnedOf : Outcome → Returned
+returnedOf o = returned (replyOf (o .report)) (o .memory) (o .output)
+
+-- interpolation's report: its point is a blob in the output
+unfoldable pub interpolationReport : interpolation.Report → Report
+interpolationReport interpolation.written = answering blob
+interpolationReport (interpolation.refused n side) = refused n side
+
+-- interpolation's outcome: side 1 has its one workspace, side 2 has none
+unfoldable pub oneSided : interpolation.Outcome → Outcome
+oneSided o = outcome (interpolationReport (o .report)) (workspaces (o .floats) (o .table) [] []) (o .output)
+
+-- ---- two numbers
+
+-- a case that is no refusal, with two numbers: 0 where it has none
+abbrev pub pairOf : ℕ → ℕ → ℕ → PairReply
+pairOf case first second = record { case = case; number = 0; side = 0; first = first; second = second }
+
+-- case 2: a refusal, with the table's number and side
+abbrev pub pairRefused : ℕ → ℕ → PairReply
+pairRefused n side = record { case = 2; number = n; side = side; first = 0; second = 0 }
+
+-- the lengths to lend for a blob: floats, then numbers
+unfoldable pub sizesReply : Sizes → PairReply
+sizesReply (sizes.Lend floats numbers) = pairOf 1 floats numbers
+sizesReply (sizes.Refused r) = pairRefused (r .number) (r .side)
+
+-- where a patch starts and ends in its blob; case 0: there is no such patch, case 3: the blob is no surface
+unfoldable pub patchReply : Patch → PairReply
+patchReply (patch.part start end) = pairOf 1 start end
+patchReply patch.nothing = pairOf 0 0 0
+patchReply patch.noSurface = pairOf 3 0 0
+patchReply (patch.refusing n side) = pairRefused n side

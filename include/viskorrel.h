@@ -1,0 +1,209 @@
+/*
+ * Viskorrel: 3D measures between GeoPackage or WKB blobs.
+ *
+ * Each function is proved to meet its contract (crates/viskorrel/src/lib.rt): for every input it ends, and its reply, the workspaces
+ * and the output equal definitions (specs/ of crates/viskorrel and of the crates that it stands on). Nothing is allocated, and nothing
+ * is kept between calls.
+ *
+ * LENT MEMORY
+ *
+ * A buffer is passed as a pointer and a length. Lengths count elements, not bytes. What the caller must see to:
+ *
+ *   - A pointer is never null, also where its length is 0: pass any aligned address then, such as that of a local of its type.
+ *   - Buffers of one call do not overlap, and no other thread uses them meanwhile. Only the blobs are exempt, as they are only read:
+ *     one blob may be passed both as a and as b, and several threads may read it.
+ *   - A pointer is aligned for its type, and so many elements from it on belong to the caller.
+ *
+ * WORKSPACES
+ *
+ * A blob is read into a workspace: floats1 and table1 for a, floats2 and table2 for b. A blob of N coordinates in R runs (points, lines
+ * and rings with at least one coordinate) takes the first 3N floats, x, y, z of each coordinate, and the first 2R numbers of the table,
+ * kind and count of each run. viskorrel_sizes gives both lengths. The rest stays unchanged; what the workspace held before does not matter.
+ * Every call that is not refused fills the workspaces, also where it answers nothing.
+ *
+ * REFUSALS
+ *
+ * A refused call changes nothing that was lent. `number` says why it was refused; `side` says what it speaks of: 1 for a or the only
+ * blob, 2 for b, 0 for neither.
+ *
+ *    1  d is below 0
+ *    2  the fraction is not within 0..1, or NaN
+ *    3  the blob starts with "GP" and has under 8 bytes
+ *    4  GeoPackage header: the version is not 0
+ *    5  GeoPackage header: the bit for extended types is set
+ *    6  GeoPackage header: a reserved bit is set
+ *    7  GeoPackage header: the envelope indicator is 5, 6 or 7
+ *    8  the blob ends in the envelope
+ *    9  a geometry's header, an SRID, a count or a run of coordinates is longer than the bytes left
+ *   10  a byte order is above 1
+ *   11  a geometry has an unknown kind
+ *   12  a geometry stands more than 32 levels deep
+ *   13  operations on two blobs: the type at the top has no Z
+ *   14  interpolation: there is a point or face, or no segment
+ *   15  the floats or the table of that side are too short
+ *   16  the output is too short, even where the answer is nothing
+ *
+ * Where several hold, the first of this order is given: 1, 2; side 1's header (3 to 8, 9 for its first five bytes, 10, then 13), side 2's;
+ * the geometries of side 1, of side 2 (of each 12, 9, 10, 9 for the SRID, 11, then its content); 14; 15 of side 1, of side 2; 16.
+ */
+#ifndef VISKORREL_H
+#define VISKORREL_H
+
+#include <stddef.h>
+#include <stdint.h>
+
+#ifdef __cplusplus
+extern "C" {
+#endif
+
+/* What came of a call: the field `outcome` of a reply (in the definitions `case`, which is a keyword of C). */
+enum viskorrel_outcome {
+    VISKORREL_NOTHING = 0,    /* there is no answer; to a question: no */
+    VISKORREL_ANSWERED = 1,   /* there is an answer; to a question: yes */
+    VISKORREL_REFUSED = 2,    /* number and side say why */
+    VISKORREL_NO_SURFACE = 3  /* patches only */
+};
+
+/* What an operation returns. A field is 0 where the outcome gives it no meaning. */
+typedef struct viskorrel_reply {
+    uint32_t outcome;
+    uint32_t number;   /* of a refusal, 1 to 16 */
+    uint32_t side;     /* of a refusal, 0 to 2 */
+    double value;      /* a distance that was answered; may be NaN, whose sign and payload mean nothing */
+} viskorrel_reply;
+
+/* What is returned where two numbers answer. A field is 0 where the outcome gives it no meaning. */
+typedef struct viskorrel_pair {
+    uint32_t outcome;
+    uint32_t number;
+    uint32_t side;
+    size_t first;
+    size_t second;
+} viskorrel_pair;
+
+/* The bytes that a blob takes in the output. */
+#define VISKORREL_POINT_BYTES 37
+#define VISKORREL_LINE_BYTES 65
+
+/*
+ * The lengths to lend for a blob: first is that of the floats, second that of the table.
+ * Lent: the blob. Changed: nothing. Refusals: 3 to 12.
+ */
+viskorrel_pair viskorrel_sizes(const uint8_t *blob, size_t length);
+
+/*
+ * LEAST DISTANCE. Each point, segment and triangle of a is measured against each of b. A line of n vertices has n - 1 segments. Every ring,
+ * a hole too, is a filled face: a fan of triangles from its first vertex, none if it has under 3 vertices. A segment that passes through a
+ * triangle is measured at its ends and at the triangle's edges. There is none where a or b has no point, segment or triangle.
+ */
+
+/*
+ * The least distance, in value. Nothing: there is none.
+ * Lent: both blobs, a workspace for each. Changed: the workspaces. Refusals: 3 to 13, 15.
+ */
+viskorrel_reply viskorrel_3d_distance(
+    const uint8_t *a, size_t a_length, const uint8_t *b, size_t b_length,
+    double *floats1, size_t floats1_length, uint32_t *table1, size_t table1_length,
+    double *floats2, size_t floats2_length, uint32_t *table2, size_t table2_length);
+
+/*
+ * Whether the least distance is at most d. No also where there is none, or where one of the two is NaN.
+ * Lent: both blobs, a workspace for each. Changed: the workspaces. Refusals: 1, 3 to 13, 15.
+ */
+viskorrel_reply viskorrel_3d_dwithin(
+    const uint8_t *a, size_t a_length, const uint8_t *b, size_t b_length, double d,
+    double *floats1, size_t floats1_length, uint32_t *table1, size_t table1_length,
+    double *floats2, size_t floats2_length, uint32_t *table2, size_t table2_length);
+
+/*
+ * Whether the least distance is 0. No also where there is none.
+ * Lent: both blobs, a workspace for each. Changed: the workspaces. Refusals: 3 to 13, 15.
+ */
+viskorrel_reply viskorrel_3d_intersects(
+    const uint8_t *a, size_t a_length, const uint8_t *b, size_t b_length,
+    double *floats1, size_t floats1_length, uint32_t *table1, size_t table1_length,
+    double *floats2, size_t floats2_length, uint32_t *table2, size_t table2_length);
+
+/*
+ * The point of a at the least distance, the first of several: a GeoPackage blob with the SRID of a, in the first 37 bytes of the output.
+ * Nothing: there is none; the output is unchanged.
+ * Lent: both blobs, a workspace for each, the output. Changed: the workspaces, and the first 37 bytes of the output.
+ * Refusals: 3 to 13, 15, 16.
+ */
+viskorrel_reply viskorrel_3d_closest_point(
+    const uint8_t *a, size_t a_length, const uint8_t *b, size_t b_length,
+    double *floats1, size_t floats1_length, uint32_t *table1, size_t table1_length,
+    double *floats2, size_t floats2_length, uint32_t *table2, size_t table2_length,
+    uint8_t *output, size_t output_length);
+
+/*
+ * The line from the point of a to the point of b at the least distance, the first of several: a GeoPackage blob with the SRID of a, in
+ * the first 65 bytes of the output. Nothing: there is none; the output is unchanged.
+ * Lent: both blobs, a workspace for each, the output. Changed: the workspaces, and the first 65 bytes of the output.
+ * Refusals: 3 to 13, 15, 16.
+ */
+viskorrel_reply viskorrel_3d_shortest_line(
+    const uint8_t *a, size_t a_length, const uint8_t *b, size_t b_length,
+    double *floats1, size_t floats1_length, uint32_t *table1, size_t table1_length,
+    double *floats2, size_t floats2_length, uint32_t *table2, size_t table2_length,
+    uint8_t *output, size_t output_length);
+
+/*
+ * GREATEST DISTANCE. Each vertex of a is measured against each of b. There is none where a or b has no vertex. A line of one vertex has no
+ * segment, and so no vertex.
+ */
+
+/*
+ * The greatest distance, in value. Nothing: there is none.
+ * Lent: both blobs, a workspace for each. Changed: the workspaces. Refusals: 3 to 13, 15.
+ */
+viskorrel_reply viskorrel_3d_max_distance(
+    const uint8_t *a, size_t a_length, const uint8_t *b, size_t b_length,
+    double *floats1, size_t floats1_length, uint32_t *table1, size_t table1_length,
+    double *floats2, size_t floats2_length, uint32_t *table2, size_t table2_length);
+
+/*
+ * Whether the greatest distance is at most d. No also where there is none, or where one of the two is NaN.
+ * Lent: both blobs, a workspace for each. Changed: the workspaces. Refusals: 1, 3 to 13, 15.
+ */
+viskorrel_reply viskorrel_3d_dfully_within(
+    const uint8_t *a, size_t a_length, const uint8_t *b, size_t b_length, double d,
+    double *floats1, size_t floats1_length, uint32_t *table1, size_t table1_length,
+    double *floats2, size_t floats2_length, uint32_t *table2, size_t table2_length);
+
+/*
+ * The line from the vertex of a to the vertex of b at the greatest distance, the first of several: a GeoPackage blob with the SRID of a, in
+ * the first 65 bytes of the output. Nothing: there is none; the output is unchanged.
+ * Lent: both blobs, a workspace for each, the output. Changed: the workspaces, and the first 65 bytes of the output.
+ * Refusals: 3 to 13, 15, 16.
+ */
+viskorrel_reply viskorrel_3d_longest_line(
+    const uint8_t *a, size_t a_length, const uint8_t *b, size_t b_length,
+    double *floats1, size_t floats1_length, uint32_t *table1, size_t table1_length,
+    double *floats2, size_t floats2_length, uint32_t *table2, size_t table2_length,
+    uint8_t *output, size_t output_length);
+
+/*
+ * The point at a fraction of the length of the blob's lines: a GeoPackage blob with the SRID of the blob, in the first 37 bytes of the output.
+ * The blob needs no Z. The outcome is never nothing.
+ * Lent: the blob, a workspace for it, the output. Changed: the workspace, and the first 37 bytes of the output.
+ * Refusals: 2 to 12, 14 to 16.
+ */
+viskorrel_reply viskorrel_3d_line_interpolate_point(
+    const uint8_t *blob, size_t length, double fraction,
+    double *floats, size_t floats_length, uint32_t *table, size_t table_length,
+    uint8_t *output, size_t output_length);
+
+/*
+ * Where patch n of a surface stands in its blob, counted from 0: from byte first up to byte second, which is no more part of it.
+ * Nothing: there is no patch n. No surface: the blob is no polyhedral surface, TIN or triangle, or what stands before its geometry's content
+ * is at fault. A triangle is its own patch 0, to the blob's end.
+ * Lent: the blob. Changed: nothing. Refusals: 9 and 10, from any patch.
+ */
+viskorrel_pair viskorrel_patch(const uint8_t *blob, size_t length, uint64_t n);
+
+#ifdef __cplusplus
+}
+#endif
+
+#endif
