@@ -1,7 +1,7 @@
 //! Feeds the original and our library the same calls and compares every result.
 //!
 //!     compare CALLS SEED [SAMPLES]           compares at least CALLS calls
-//!     compare records FOLDER COUNT SEED      writes a list of the original's answers
+//!     compare records FOLDER COUNT SEED [SAMPLES]   writes a list of the original's answers
 
 mod call;
 mod cases;
@@ -148,11 +148,11 @@ fn compare(least: usize, seed: u64, samples: &[Vec<u8>]) -> bool {
     report.disagreements.is_empty()
 }
 
-fn write_records(folder: &str, count: usize, seed: u64) -> std::io::Result<()> {
+fn write_records(folder: &str, count: usize, seed: u64, samples: &[Vec<u8>]) -> std::io::Result<()> {
     let mut records = Records::default();
     let numbers = &mut Random::new(seed ^ 0x5EED);
     let mut cases = 0;
-    every_case(&mut Random::new(seed), &[], &mut |case| {
+    every_case(&mut Random::new(seed), samples, &mut |case| {
         cases += 1;
         let sides = [&Side::new(&case.a), &Side::new(&case.b)];
         for call in case.calls(sides[0], sides[1], numbers) {
@@ -183,17 +183,16 @@ fn main() -> ExitCode {
     let words: Vec<String> = std::env::args().skip(1).collect();
     let words: Vec<&str> = words.iter().map(String::as_str).collect();
     let number = |word: &str| word.parse::<u64>().expect("a whole number");
+    let blobs = |path: &str| read_samples(path).expect("the samples can be read");
     let good = match words[..] {
-        ["records", folder, count, seed] => {
-            write_records(folder, number(count) as usize, number(seed)).expect("the folder can be written");
+        ["records", folder, count, seed, ref samples @ ..] => {
+            let samples = samples.first().map_or(Vec::new(), |path| blobs(path));
+            write_records(folder, number(count) as usize, number(seed), &samples).expect("the folder can be written");
             true
         }
         [calls, seed] => compare(number(calls) as usize, number(seed), &[]),
-        [calls, seed, samples] => {
-            let samples = read_samples(samples).expect("the samples can be read");
-            compare(number(calls) as usize, number(seed), &samples)
-        }
-        _ => panic!("compare CALLS SEED [SAMPLES], or compare records FOLDER COUNT SEED"),
+        [calls, seed, samples] => compare(number(calls) as usize, number(seed), &blobs(samples)),
+        _ => panic!("compare CALLS SEED [SAMPLES], or compare records FOLDER COUNT SEED [SAMPLES]"),
     };
     if good { ExitCode::SUCCESS } else { ExitCode::FAILURE }
 }
