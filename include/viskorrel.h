@@ -10,8 +10,8 @@
  * A buffer is passed as a pointer and a length. Lengths count elements, not bytes. What the caller must see to:
  *
  *   - A pointer is never null, also where its length is 0: pass any aligned address then, such as that of a local of its type.
- *   - Buffers of one call do not overlap, and no other thread uses them meanwhile. Only the blobs are exempt, as they are only read:
- *     one blob may be passed both as a and as b, and several threads may read it.
+ *   - A buffer that the call may change (workspaces, output) overlaps no other buffer of the call, and no other thread uses it meanwhile.
+ *     Blobs are only read: one blob may be passed both as a and as b.
  *   - A pointer is aligned for its type, and so many elements from it on belong to the caller.
  *
  * WORKSPACES

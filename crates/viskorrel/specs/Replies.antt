@@ -29,12 +29,14 @@ replyAnswered d = record { case = 1; number = 0; side = 0; value = d }
 abbrev pub replyRefused : ℕ → ℕ → Reply
 replyRefused n side = record { case = 2; number = n; side = side; value = positiveZero }
 
+-- the reply to what is answered
 unfoldable pub replyOfValue : Value → Reply
 replyOfValue (number d) = replyAnswered d
 replyOfValue (decided b) = cond b (replyAnswered positiveZero) replyNothing
 replyOfValue blob = replyAnswered positiveZero
 replyOfValue nothing = replyNothing
 
+-- the reply to a report: document 01's number and side of a refusal, or the value
 unfoldable pub replyOf : Report → Reply
 replyOf (answering v) = replyOfValue v
 replyOf (refused n side) = replyRefused n side

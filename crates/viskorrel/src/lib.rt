@@ -12,9 +12,9 @@ ghost use mathlib.Core.List.{[]};
 ghost use Rattle.blob.specs.Blob.{sizesOf};
 ghost use Rattle.interpolation.specs.Operation.{reportOf, interpolationOutcome};
 ghost use Rattle.operands.specs.Operands.{workspaces};
+ghost use Rattle.surface.specs.Patches.{patchOf};
 ghost use Rattle.threed_metric.specs.Answers.{answerReport, decisionReport, writtenReport};
 ghost use Rattle.threed_metric.specs.Operations.{distance, maxDistance, within, fullyWithin, intersects, closestPoint, shortestLine, longestLine};
-ghost use Rattle.surface.specs.Patches.{patchOf};
 ghost use Rattle.viskorrel.specs.Replies.{replyNothing, replyAnswered, replyRefused, replyOf, returned, returnedOf, interpolationReport, oneSided, pairOf, pairRefused, sizesReply, patchReply};
 
 // What an operation returns: a case, the number and side of a refusal, a number.
@@ -42,10 +42,13 @@ const NOTHING: u32 = 0;
 // A number, yes, a blob in the output, or two numbers.
 const ANSWERED: u32 = 1;
 
+// The number and the side say why.
 const REFUSED: u32 = 2;
 
+// A patch was asked of a blob that is no surface.
 const NO_SURFACE: u32 = 3;
 
+// The reply where there is no answer, or no is the answer.
 fn nothing() -> Reply
     ensures { λ r. ⌜ r ≡ replyNothing ⌝ }
 {
@@ -57,6 +60,7 @@ fn nothing() -> Reply
     }
 }
 
+// The reply where there is an answer: its number, or 0.
 fn answered(value: f64) -> Reply
     ensures { λ r. ⌜ r ≡ replyAnswered value ⌝ }
 {
@@ -68,6 +72,7 @@ fn answered(value: f64) -> Reply
     }
 }
 
+// The reply to a refused call.
 fn refused(refusal: Refusal) -> Reply
     ensures { λ r. ⌜ r ≡ replyRefused (refusal .number) (refusal .side) ⌝ }
 {
@@ -79,6 +84,7 @@ fn refused(refusal: Refusal) -> Reply
     }
 }
 
+// The reply to a distance.
 fn reply_to_answer(answer: Answer) -> Reply
     ensures { λ r. ⌜ r ≡ replyOf (answerReport answer) ⌝ }
 {
@@ -89,6 +95,7 @@ fn reply_to_answer(answer: Answer) -> Reply
     }
 }
 
+// The reply to a question.
 fn reply_to_decision(decision: Decision) -> Reply
     ensures { λ r. ⌜ r ≡ replyOf (decisionReport decision) ⌝ }
 {
@@ -99,6 +106,7 @@ fn reply_to_decision(decision: Decision) -> Reply
     }
 }
 
+// The reply to a blob that was asked for.
 fn reply_to_written(written: Written) -> Reply
     ensures { λ r. ⌜ r ≡ replyOf (writtenReport written) ⌝ }
 {
@@ -109,6 +117,7 @@ fn reply_to_written(written: Written) -> Reply
     }
 }
 
+// The reply to an interpolated point.
 fn reply_to_interpolated(interpolated: Interpolated) -> Reply
     ensures { λ r. ⌜ r ≡ replyOf (interpolationReport (reportOf interpolated)) ⌝ }
 {
@@ -118,6 +127,7 @@ fn reply_to_interpolated(interpolated: Interpolated) -> Reply
     }
 }
 
+// Two numbers with a case that is no refusal.
 fn pair(case: u32, first: usize, second: usize) -> PairReply
     ensures { λ r. ⌜ r ≡ pairOf case first second ⌝ }
 {
@@ -130,6 +140,7 @@ fn pair(case: u32, first: usize, second: usize) -> PairReply
     }
 }
 
+// The same of a refused call.
 fn pair_refused(refusal: Refusal) -> PairReply
     ensures { λ r. ⌜ r ≡ pairRefused (refusal .number) (refusal .side) ⌝ }
 {
