@@ -1,0 +1,122 @@
+//! 3D measures between GeoPackage or WKB blobs: a safe layer over Viskorrel's C exports, whose answers are proved.
+//!
+//! Any bytes may be passed. A call gives an answer, or a [`Refusal`] from a fixed table. Names and shapes are those of
+//! [kenro](https://github.com/reearth/kenro); where the two answer differently, `docs/DIFFERENCES.md` says so.
+//!
+//! The functions here keep one [`Measurer`] for each thread, and so as much memory as the thread's largest blobs took. Hold a `Measurer`
+//! of your own to say when that memory goes.
+//!
+//! ```
+//! fn point(x: f64, y: f64, z: f64) -> Vec<u8> {
+//!     let mut blob = vec![1, 0xE9, 3, 0, 0]; // little-endian, point with Z
+//!     blob.extend([x, y, z].iter().flat_map(|ordinate| ordinate.to_le_bytes()));
+//!     blob
+//! }
+//! let (a, b) = (point(0.0, 0.0, 0.0), point(3.0, 4.0, 12.0));
+//! assert_eq!(viskorrel::st_3d_distance(&a, &b), Ok(Some(13.0)));
+//!
+//! let refusal = viskorrel::st_3d_distance(&a, &b[..20]).unwrap_err();
+//! assert_eq!((refusal.number, refusal.side), (9, 2));
+//! ```
+
+#![deny(unsafe_code, missing_docs)]
+
+#[allow(unsafe_code, missing_docs)]
+mod c;
+mod measurer;
+mod refusal;
+
+pub use measurer::Measurer;
+pub use refusal::Refusal;
+
+use std::cell::RefCell;
+
+/// What a blob takes of a workspace, counted in elements.
+#[derive(Clone, Copy, Debug, PartialEq, Eq)]
+pub struct Sizes {
+    /// Three for each coordinate.
+    pub floats: usize,
+    /// Two for each point, line and ring that has a coordinate.
+    pub table: usize,
+}
+
+/// What was found for a patch of a surface.
+#[derive(Clone, Copy, Debug, PartialEq, Eq)]
+pub enum Patch<'a> {
+    /// The patch: a part of the blob.
+    Part(&'a [u8]),
+    /// The surface has no patch of that number.
+    Nothing,
+    /// The blob is no polyhedral surface, TIN or triangle, or what stands before its geometry's content is at fault.
+    NoSurface,
+}
+
+/// What a blob takes of a workspace. Whether its type has Z is not asked. Refusals: 3 to 12.
+pub fn sizes(blob: &[u8]) -> Result<Sizes, Refusal> {
+    let pair = c::sizes(blob);
+    pair.answered().map(|_| Sizes { floats: pair.first, table: pair.second })
+}
+
+/// Patch `n` of a surface, counted from 0. A triangle is its own patch 0, to the blob's end. Refusals: 9 and 10, from any patch.
+pub fn patch(blob: &[u8], n: u64) -> Result<Patch<'_>, Refusal> {
+    let pair = c::patch(blob, n);
+    Ok(match pair.answered()? {
+        true => Patch::Part(&blob[pair.first..pair.second]),
+        false if pair.no_surface() => Patch::NoSurface,
+        false => Patch::Nothing,
+    })
+}
+
+thread_local! {
+    static MEASURER: RefCell<Measurer> = RefCell::new(Measurer::new());
+}
+
+/// Calls with the thread's measurer, or with a fresh one where the thread is ending and its own is gone.
+fn with<T>(call: impl Fn(&mut Measurer) -> T) -> T {
+    MEASURER.try_with(|measurer| call(&mut measurer.borrow_mut())).unwrap_or_else(|_| call(&mut Measurer::new()))
+}
+
+/// See [`Measurer::st_3d_distance`]. Refusals: 3 to 13.
+pub fn st_3d_distance(a: &[u8], b: &[u8]) -> Result<Option<f64>, Refusal> {
+    with(|measurer| measurer.st_3d_distance(a, b))
+}
+
+/// See [`Measurer::st_3d_max_distance`]. Refusals: 3 to 13.
+pub fn st_3d_max_distance(a: &[u8], b: &[u8]) -> Result<Option<f64>, Refusal> {
+    with(|measurer| measurer.st_3d_max_distance(a, b))
+}
+
+/// See [`Measurer::st_3d_dwithin`]. Refusals: 1, 3 to 13.
+pub fn st_3d_dwithin(a: &[u8], b: &[u8], d: f64) -> Result<bool, Refusal> {
+    with(|measurer| measurer.st_3d_dwithin(a, b, d))
+}
+
+/// See [`Measurer::st_3d_dfully_within`]. Refusals: 1, 3 to 13.
+pub fn st_3d_dfully_within(a: &[u8], b: &[u8], d: f64) -> Result<bool, Refusal> {
+    with(|measurer| measurer.st_3d_dfully_within(a, b, d))
+}
+
+/// See [`Measurer::st_3d_intersects`]. Refusals: 3 to 13.
+pub fn st_3d_intersects(a: &[u8], b: &[u8]) -> Result<bool, Refusal> {
+    with(|measurer| measurer.st_3d_intersects(a, b))
+}
+
+/// See [`Measurer::st_3d_closest_point`]. Refusals: 3 to 13.
+pub fn st_3d_closest_point(a: &[u8], b: &[u8]) -> Result<Option<Vec<u8>>, Refusal> {
+    with(|measurer| measurer.st_3d_closest_point(a, b))
+}
+
+/// See [`Measurer::st_3d_shortest_line`]. Refusals: 3 to 13.
+pub fn st_3d_shortest_line(a: &[u8], b: &[u8]) -> Result<Option<Vec<u8>>, Refusal> {
+    with(|measurer| measurer.st_3d_shortest_line(a, b))
+}
+
+/// See [`Measurer::st_3d_longest_line`]. Refusals: 3 to 13.
+pub fn st_3d_longest_line(a: &[u8], b: &[u8]) -> Result<Option<Vec<u8>>, Refusal> {
+    with(|measurer| measurer.st_3d_longest_line(a, b))
+}
+
+/// See [`Measurer::st_3d_line_interpolate_point`]. Refusals: 2 to 12, 14.
+pub fn st_3d_line_interpolate_point(blob: &[u8], fraction: f64) -> Result<Vec<u8>, Refusal> {
+    with(|measurer| measurer.st_3d_line_interpolate_point(blob, fraction))
+}
