@@ -1,0 +1,195 @@
+//! Large pairs: long lines, spheres, surveyed surfaces, groups of points.
+
+use std::f64::consts::{FRAC_PI_2, TAU};
+use std::rc::Rc;
+
+use crate::encode::Geometry;
+use crate::random::Random;
+use crate::shapes::{self, Point, around, between, moved};
+use crate::workload::{Op, Pair, Table, Workload};
+
+const ORIGIN: Point = [500_000.0, 4_000_000.0, 80.0];
+
+/// A tracked pipe of `n` vertices along a corridor of one kilometre that runs slantwise, winds and jitters.
+fn route(n: usize, beside: f64, random: &mut Random) -> Geometry {
+    const HEADING: f64 = 0.5;
+    let points: Vec<Point> = (0..n)
+        .map(|i| {
+            let along = 1_000.0 * i as f64 / n as f64;
+            let side = 15.0 * (along / 110.0).sin() + 2.0 * (along / 17.0).cos() + beside;
+            let axis = around(ORIGIN, HEADING, along, 3.0 * (along / 170.0).sin());
+            let jitter = [between(-4.0, 4.0, random), between(-4.0, 4.0, random), between(-0.5, 0.5, random)];
+            moved(around(axis, HEADING + FRAC_PI_2, side, 0.0), jitter)
+        })
+        .collect();
+    shapes::line(&points)
+}
+
+/// A line of `n` vertices drawn evenly from a sphere.
+fn sphere(n: usize, random: &mut Random) -> Geometry {
+    let points: Vec<Point> = (0..n)
+        .map(|_| {
+            let (height, angle) = (between(-1.0, 1.0, random), random.unit() * TAU);
+            around(ORIGIN, angle, 1_000.0 * (1.0 - height * height).sqrt(), 1_000.0 * height)
+        })
+        .collect();
+    shapes::line(&points)
+}
+
+/// The length of a surface's side in metres, whatever its number of triangles.
+const SIDE: f64 = 110.0;
+
+/// A wavy surface of `n` triangles over a grid.
+fn surface(n: usize, corner: Point, random: &mut Random) -> Geometry {
+    let columns = (n as f64 / 2.0).sqrt().ceil() as usize;
+    let step = SIDE / columns as f64;
+    let rows = n.div_ceil(2 * columns);
+    let grid: Vec<Vec<Point>> = (0..=rows)
+        .map(|row| {
+            (0..=columns)
+                .map(|column| {
+                    let (x, y) = (step * column as f64, step * row as f64);
+                    let z = 2.0 * (x / 17.0).sin() + 1.5 * (y / 23.0).cos() + between(-0.2, 0.2, random);
+                    moved(corner, [x, y, z])
+                })
+                .collect()
+        })
+        .collect();
+    let mut triangles: Vec<[Point; 3]> = Vec::new();
+    for (low, high) in grid.iter().zip(&grid[1..]) {
+        for i in 0..columns {
+            triangles.push([low[i], low[i + 1], high[i]]);
+            triangles.push([low[i + 1], high[i + 1], high[i]]);
+        }
+    }
+    shapes::tin(&triangles[..n])
+}
+
+/// Two surfaces, the second moved to the east, north and up.
+fn surfaces(n: usize, east: f64, north: f64, up: f64, random: &mut Random) -> (Geometry, Geometry) {
+    let there = moved(ORIGIN, [east, north, up]);
+    (surface(n, ORIGIN, random), surface(n, there, random))
+}
+
+/// `n` points, drawn evenly from a square of 200 metres.
+fn dents(n: usize, corner: Point, random: &mut Random) -> Geometry {
+    let mut dent =
+        || moved(corner, [between(0.0, 200.0, random), between(0.0, 200.0, random), between(-2.0, 2.0, random)]);
+    shapes::multipoint(&(0..n).map(|_| dent()).collect::<Vec<_>>())
+}
+
+/// Two routes side by side.
+fn routes(n: usize, random: &mut Random) -> (Geometry, Geometry) {
+    (route(n, 0.0, random), route(n, 25.0, random))
+}
+
+struct Family {
+    name: &'static str,
+    op: Op,
+    target: Option<f64>,
+    /// How many pairs of each size are drawn.
+    pairs: usize,
+    /// Size, calls for each pair in a round, most rounds.
+    sizes: &'static [(usize, usize, usize)],
+    draw: fn(usize, &mut Random) -> (Geometry, Geometry),
+}
+
+const MOST: usize = usize::MAX;
+
+const FAMILIES: [Family; 8] = [
+    Family {
+        name: "corridor",
+        op: Op::LongestLine,
+        target: Some(1.0),
+        pairs: 10,
+        sizes: &[(1_000, 4, MOST), (4_000, 1, MOST), (16_000, 1, MOST)],
+        draw: routes,
+    },
+    Family {
+        name: "sphere",
+        op: Op::LongestLine,
+        target: Some(0.1),
+        pairs: 1,
+        sizes: &[(1_000, 1, MOST), (4_000, 1, 3), (16_000, 1, 2)],
+        draw: |n, random| (sphere(n, random), sphere(n, random)),
+    },
+    Family {
+        name: "TIN",
+        op: Op::Distance,
+        target: Some(1.0),
+        pairs: 1,
+        sizes: &[(250, 20, MOST), (1_000, 4, MOST), (4_000, 1, 5)],
+        draw: |n, random| surfaces(n, 30.0, -30.0, 12.0, random),
+    },
+    Family {
+        name: "TIN near",
+        op: Op::Distance,
+        target: Some(1.0),
+        pairs: 1,
+        sizes: &[(250, 4, MOST), (1_000, 1, MOST), (4_000, 1, 3)],
+        draw: |n, random| surfaces(n, 0.0, 0.0, 1.0, random),
+    },
+    Family {
+        name: "TIN far",
+        op: Op::Distance,
+        target: Some(1.0),
+        pairs: 1,
+        sizes: &[(250, 20, MOST), (1_000, 4, MOST), (4_000, 1, 5)],
+        draw: |n, random| surfaces(n, 2_000.0, 2_000.0, 12.0, random),
+    },
+    Family {
+        name: "lines",
+        op: Op::Distance,
+        target: None,
+        pairs: 1,
+        sizes: &[(1_000, 4, MOST), (4_000, 1, 5)],
+        draw: routes,
+    },
+    Family {
+        name: "multipoints",
+        op: Op::Distance,
+        target: None,
+        pairs: 1,
+        sizes: &[(2_000, 1, MOST)],
+        draw: |n, random| (dents(n, ORIGIN, random), dents(n, moved(ORIGIN, [150.0, 150.0, 0.0]), random)),
+    },
+    Family {
+        name: "multipoints",
+        op: Op::LongestLine,
+        target: None,
+        pairs: 1,
+        sizes: &[(2_000, 1, MOST)],
+        draw: |n, random| (dents(n, ORIGIN, random), dents(n, moved(ORIGIN, [150.0, 150.0, 0.0]), random)),
+    },
+];
+
+impl Family {
+    fn pairs(&self, size: usize) -> Vec<Pair> {
+        let random = &mut Random::new(size as u64);
+        (0..self.pairs)
+            .map(|_| {
+                let (a, b) = (self.draw)(size, random);
+                Pair { a: shapes::blob(&a), b: shapes::blob(&b) }
+            })
+            .collect()
+    }
+}
+
+pub fn workloads() -> Vec<Workload> {
+    let mut list = Vec::new();
+    for family in &FAMILIES {
+        for &(size, times, rounds) in family.sizes {
+            list.push(Workload {
+                name: format!("{} {} {size}", family.name, family.op.name()),
+                table: Table::Large,
+                ops: vec![family.op],
+                pairs: Rc::new(family.pairs(size)),
+                times,
+                rounds,
+                target: family.target,
+                growth: Some((family.name, size)).filter(|_| family.sizes.len() > 1),
+            });
+        }
+    }
+    list
+}
