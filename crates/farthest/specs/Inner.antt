@@ -6,7 +6,8 @@ use mathlib.Core.List.{List, [], _∷_, _++_, foldl}
 use mathlib.Core.Option.{Option, none, some}
 use lib.Dec.{ltb, eqb}
 use lib.ListN.{length}
-use lib.Ieee.{nan}
+use lib.Ieee.{nan, lt}
+use Rattle.ieee754.specs.MinMax.{positiveZero}
 use Rattle.coords.specs.Parts.{Run, run, isLine}
 use Rattle.parts.specs.Stored.{kindAt, countAt}
 use Rattle.parts.specs.Classes.{runClass}
@@ -23,9 +24,9 @@ use Rattle.farthest.specs.Farthest.{noFarther, farthestFrom}
 
 -- ---- the best pair so far
 
--- the pair that a state has
+-- the pair that a state has: none if its distance is below 0
 unfoldable pub pairOf : Best → Option Witness
-pairOf b = cond (b .found) (some (b .w)) none
+pairOf b = cond (lt (b .w .d) positiveZero) none (some (b .w))
 
 -- the best pair is one of two points, with its sum of squares
 pub record OfPoints (b : Best) : Type 0 where
@@ -36,8 +37,8 @@ pub record OfPoints (b : Best) : Type 0 where
 
 -- the sum is NaN while there is no pair
 pub record Sound (b : Best) : Type 0 where
-  pub empty : b .found ≡ false → b .sum ≡ nan
-  pub pair : b .found ≡ true → OfPoints b
+  pub empty : lt (b .w .d) positiveZero ≡ true → b .sum ≡ nan
+  pub pair : lt (b .w .d) positiveZero ≡ false → OfPoints b
 
 -- b is sound and has that pair
 pub record Keeps (b : Best) (pair : Option Witness) : Type 0 where

@@ -23,9 +23,8 @@ pub enum FarthestPair {
     Found(Witness),
 }
 
-// The best pair so far: whether there is one, its sum of squares (NaN while there is none), and its witness.
+// The best pair so far: its sum of squares and its witness. While there is none, the distance is below 0 and the sum NaN.
 pub struct Best {
-    pub found: bool,
     pub sum: f64,
     pub w: Witness,
 }
@@ -45,13 +44,12 @@ fn offer(best: Best, p: Point, q: Point, s: f64) -> Best
 {
     let d = ieee754::root(s);
     let longest = best.w.d;
-    if best.found {
+    if longest < 0.0 {} else {
         if d > longest {} else {
             return best;
         }
     }
     Best {
-        found: true,
         sum: s,
         w: Witness {
             d,
@@ -186,11 +184,11 @@ const ONE_PLUS_SLACK: f64 = 1.0000000000000017763568394002504646778106689453125;
 fn no_farther(b: Best, p: Point, around: Aabb) -> bool
     ensures { λ r. ⌜ r ≡ noFarther around (pairOf b) p ⌝ }
 {
-    if b.found {
-        let d = b.w.d;
-        Aabb::point(p).max_dist_sq(around) * ONE_PLUS_SLACK <= d * d
-    } else {
+    let d = b.w.d;
+    if d < 0.0 {
         false
+    } else {
+        Aabb::point(p).max_dist_sq(around) * ONE_PLUS_SLACK <= d * d
     }
 }
 
@@ -274,6 +272,31 @@ fn visit_class(
     b
 }
 
+// The same, where it is known whether the class occurs: if not, it is not walked.
+fn visit_occurring(
+    best: Best,
+    floats1: &[f64],
+    table1: &[u32],
+    class: u32,
+    any: bool,
+    floats2: &[f64],
+    table2: &[u32],
+    has: Classes,
+    around: Aabb,
+) -> Best
+    requires { ⌜ Sound best ⌝ }
+    requires { ⌜ Laid (now table1) (now floats1) ⌝ }
+    requires { ⌜ any ≡ occurs class (now table1) ⌝ }
+    requires { ⌜ Laid (now table2) (now floats2) ⌝ }
+    requires { ⌜ Occurs has (now table2) ⌝ }
+    ensures { λ r. ⌜ Keeps r (swept around (verticesOnce (storedRuns (now (table2 .entry)) (now (floats2 .entry)))) (pairOf best) (classVertices class (storedRuns (now (table1 .entry)) (now (floats1 .entry))))) ⌝ }
+{
+    if any {
+        return visit_class(best, floats1, table1, class, floats2, table2, has, around);
+    }
+    best
+}
+
 // A box with the points of a run added.
 fn box_run(start: Aabb, floats: &[f64], first: usize, count: usize) -> Aabb
     requires { ⌜ floatsPerCoordinate * (first + count) ≤ length (now floats) ⌝ }
@@ -310,9 +333,22 @@ fn box_class(start: Aabb, floats: &[f64], table: &[u32], class: u32) -> Aabb
     b
 }
 
-// The box of all vertices; of none, the box of NaNs, which every point replaces.
-fn box_all(floats: &[f64], table: &[u32]) -> Aabb
+// The same, where it is known whether the class occurs: if not, it is not walked.
+fn box_occurring(start: Aabb, floats: &[f64], table: &[u32], class: u32, any: bool) -> Aabb
     requires { ⌜ Laid (now table) (now floats) ⌝ }
+    requires { ⌜ any ≡ occurs class (now table) ⌝ }
+    ensures { λ r. ⌜ r ≡ boxWith start (classVertices class (storedRuns (now (table .entry)) (now (floats .entry)))) ⌝ }
+{
+    if any {
+        return box_class(start, floats, table, class);
+    }
+    start
+}
+
+// The box of all vertices; of none, the box of NaNs, which every point replaces.
+fn box_all(floats: &[f64], table: &[u32], has: Classes) -> Aabb
+    requires { ⌜ Laid (now table) (now floats) ⌝ }
+    requires { ⌜ Occurs has (now table) ⌝ }
     ensures { λ r. ⌜ r ≡ boxWith emptyBox (verticesOnce (storedRuns (now (table .entry)) (now (floats .entry)))) ⌝ }
 {
     let n = 0.0 / 0.0;
@@ -324,9 +360,9 @@ fn box_all(floats: &[f64], table: &[u32]) -> Aabb
         hi_y: n,
         hi_z: n,
     };
-    let points = box_class(b, floats, table, parts::POINTS);
-    let lines = box_class(points, floats, table, parts::LINES);
-    box_class(lines, floats, table, parts::FACES)
+    let points = box_occurring(b, floats, table, parts::POINTS, has.points);
+    let lines = box_occurring(points, floats, table, parts::LINES, has.lines);
+    box_occurring(lines, floats, table, parts::FACES, has.faces)
 }
 
 // No pair yet.
@@ -334,7 +370,7 @@ fn none_yet() -> Best
     ensures { λ r. ⌜ Keeps r none ⌝ }
 {
     let w = Witness {
-        d: 0.0,
+        d: -1.0,
         ax: 0.0,
         ay: 0.0,
         az: 0.0,
@@ -342,11 +378,7 @@ fn none_yet() -> Best
         by: 0.0,
         bz: 0.0,
     };
-    Best {
-        found: false,
-        sum: 0.0 / 0.0,
-        w,
-    }
+    Best { sum: 0.0 / 0.0, w }
 }
 
 // All vertices of side 1 against side 2.
@@ -355,37 +387,41 @@ fn visit_all(floats1: &[f64], table1: &[u32], floats2: &[f64], table2: &[u32]) -
     requires { ⌜ Laid (now table2) (now floats2) ⌝ }
     ensures { λ r. ⌜ Keeps r (sweptOnce (storedRuns (now (table1 .entry)) (now (floats1 .entry))) (storedRuns (now (table2 .entry)) (now (floats2 .entry)))) ⌝ }
 {
-    let around = box_all(floats2, table2);
-    let has = occurring(table2);
+    let has1 = occurring(table1);
+    let has2 = occurring(table2);
+    let around = box_all(floats2, table2, has2);
     let b = none_yet();
-    let b = visit_class(
+    let b = visit_occurring(
         b,
         floats1,
         table1,
         parts::POINTS,
+        has1.points,
         floats2,
         table2,
-        has,
+        has2,
         around,
     );
-    let b = visit_class(
+    let b = visit_occurring(
         b,
         floats1,
         table1,
         parts::LINES,
+        has1.lines,
         floats2,
         table2,
-        has,
+        has2,
         around,
     );
-    visit_class(
+    visit_occurring(
         b,
         floats1,
         table1,
         parts::FACES,
+        has1.faces,
         floats2,
         table2,
-        has,
+        has2,
         around,
     )
 }
@@ -397,10 +433,10 @@ pub fn farthest(floats1: &[f64], table1: &[u32], floats2: &[f64], table2: &[u32]
     ensures { λ r. ⌜ r ≡ answerOf (farthestOf (verticesOf (storedRuns (now (table1 .entry)) (now (floats1 .entry)))) (verticesOf (storedRuns (now (table2 .entry)) (now (floats2 .entry))))) ⌝ }
 {
     let all = visit_all(floats1, table1, floats2, table2);
-    if all.found {
-        let w = all.w;
-        FarthestPair::Found(w)
-    } else {
+    let w = all.w;
+    if w.d < 0.0 {
         FarthestPair::Nothing
+    } else {
+        FarthestPair::Found(w)
     }
 }

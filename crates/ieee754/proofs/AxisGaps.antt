@@ -74,11 +74,11 @@ difference-below-greatest-gap-absolute p x lo hi fp fx fl fh i n = subst (λ (z 
 abbrev pub leastGap : Float → Float → Float → Float → Float
 leastGap alo ahi blo bhi = maximumOf (maximumOf (sub binary64 alo bhi) (sub binary64 blo ahi)) positiveZero
 
-zero-fits : T (fits binary64 positiveZero)
+pub zero-fits : T (fits binary64 positiveZero)
 unfolding fits
 zero-fits = tt
 
-zero-number : T (not (isNan positiveZero))
+pub zero-number : T (not (isNan positiveZero))
 unfolding isNan
 zero-number = tt
 
@@ -87,7 +87,7 @@ unfolding unitsOf
 zero-rank = refl
 
 -- the larger of z and +0 is a number of at least +0
-at-least-zero : (z : Float) → T (fits binary64 z) → T (not (isNan (maximumOf z positiveZero))) × (top ≤ rankOf (maximumOf z positiveZero))
+pub at-least-zero : (z : Float) → T (fits binary64 z) → T (not (isNan (maximumOf z positiveZero))) × (top ≤ rankOf (maximumOf z positiveZero))
 at-least-zero z f = go (isNan z) refl (lt z positiveZero) refl
   where
     go : (p : Bool) → isNan z ≡ p → (q : Bool) → lt z positiveZero ≡ q → T (not (isNan (cond p positiveZero (cond q positiveZero z)))) × (top ≤ rankOf (cond p positiveZero (cond q positiveZero z)))
@@ -97,7 +97,7 @@ at-least-zero z f = go (isNan z) refl (lt z positiveZero) refl
         let n : T (not (isNan z)) = subst (λ (t : Bool). T (not t)) (sym e) tt in
         (n, le-trans (le-of-eq (sym zero-rank)) (le→rank positiveZero z zero-fits f (not-lt→le z positiveZero n zero-number f zero-fits l)))
 
-absolute-rank : (g : Float) → T (not (isNan g)) → T (fits binary64 g) → top ≤ rankOf g → rankOf (absoluteOf g) ≡ rankOf g
+pub absolute-rank : (g : Float) → T (not (isNan g)) → T (fits binary64 g) → top ≤ rankOf g → rankOf (absoluteOf g) ≡ rankOf g
 absolute-rank nan n f h = absurd (unfold isNan in n)
 absolute-rank (inf true) n f h = absurd (none h)
   where

@@ -16,6 +16,7 @@ pub mod FloatUnits
 pub mod SignClear
 pub mod SumsAndSquares
 pub mod RootLaws
+pub mod NotBelowZero
 pub mod FloatRanks
 pub mod FloatOrder
 pub mod MinMaxLaws
@@ -23,6 +24,7 @@ pub mod Differences
 pub mod NearDifferences
 pub mod AxisBounds
 pub mod AxisGaps
+pub mod GapOrder
 pub mod Slack
 pub mod FarthestSkip
 pub mod ClosestSkip

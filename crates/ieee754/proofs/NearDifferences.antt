@@ -183,7 +183,7 @@ module _ (s : Bool) (m : ℕ) (e : ℤ) (t : Bool) (n : ℕ) (d : ℤ) (f : T (f
   unfolding sub add neg
   form = signed s t A B C
 
-  same-or-less : rankOf (fin s m e) ≤ rankOf (fin t n d) → (y : Float) → T (signClear y) → T (fits binary64 y) → T (le (sub binary64 (fin s m e) (fin t n d)) y)
+  pub same-or-less : rankOf (fin s m e) ≤ rankOf (fin t n d) → (y : Float) → T (signClear y) → T (fits binary64 y) → T (le (sub binary64 (fin s m e) (fin t n d)) y)
   same-or-less h y c k =
       subst (λ (z : Float). T (le z y)) (sym form)
       (elim (down-sign top s t A B w v C D C> (pow-pos 1074) ex ey (units-below-top s m e f) (units-below-top t n d g) h) [
@@ -191,7 +191,7 @@ module _ (s : Bool) (m : ℕ) (e : ℤ) (t : Bool) (n : ℕ) (d : ℤ) (f : T (f
         | inr z ↦ subst (λ (a : ℕ). T (le (round binary64 (sign s t A B) a C) y)) (sym z) (zero-under (sign s t A B) C y C> c k)
       ])
 
-  more : rankOf (fin t n d) < rankOf (fin s m e) → sub binary64 (fin s m e) (fin t n d) ≡ round binary64 false (distance (rankOf (fin s m e)) (rankOf (fin t n d))) D
+  pub more : rankOf (fin t n d) < rankOf (fin s m e) → sub binary64 (fin s m e) (fin t n d) ≡ round binary64 false (distance (rankOf (fin s m e)) (rankOf (fin t n d))) D
   more h =
       form
       ∙ ap (λ (b : Bool). round binary64 b (signedDistance s t A B) C) (up-sign top s t A B w v C D C> (pow-pos 1074) ex ey (units-below-top s m e f) (units-below-top t n d g) h)
@@ -217,7 +217,7 @@ near-fin s m e t n d s' m' e' t' n' d' f g f' g' h k = go (decLe (rankOf (fin s 
         (round-mono binary64 (distance (rankOf (fin s m e)) (rankOf (fin t n d))) D (distance (rankOf (fin s' m' e')) (rankOf (fin t' n' d'))) D (pow-pos 1074) (pow-pos 1074) (mul-le-mul-right D (wider (rankOf (fin s m e)) (rankOf (fin t n d)) (rankOf (fin s' m' e')) (rankOf (fin t' n' d')) h k (lt-of-not-le l)))))
 
 -- ---- the infinities
-number-inf : (x : Float) → T (not (isNan x)) → T (le x (inf false))
+pub number-inf : (x : Float) → T (not (isNan x)) → T (le x (inf false))
 unfolding isNan le
 number-inf (inf true) n = tt
 number-inf (inf false) n = tt

@@ -234,10 +234,8 @@ pub fn absolute(x: f64) -> f64
 pub fn clamp(x: f64) -> f64
     ensures { λ r. ⌜ r ≡ clampOf x ⌝ }
 {
-    if x < 0.0 {
-        return 0.0;
-    }
-    if x > 1.0 { 1.0 } else { x }
+    let y = if x < 0.0 { 0.0 } else { x };
+    if y > 1.0 { 1.0 } else { y }
 }
 
 // The number of a bit pattern; a NaN for each NaN's pattern, at which from_bits is undefined.

@@ -1,4 +1,5 @@
 -- `farthest` meets its contract: the code's sweep is the definition's. Assumes nothing.
+use lib.Ieee.{ofBits}
 use borrow.Author.Needs.{needs}
 use Rattle.farthest.specs.Answer.{answerOf}
 use Rattle.farthest.specs.Inner.{pairOf}
@@ -10,12 +11,12 @@ visit-all-requires : tie.Need-visit-all-requires
 visit-all-requires c κs = search needs
 
 returns : tie.Need-returns
-unfolding answerOf pairOf
-returns c = rw (farthest-once, ← c .before .before .visit-all .ensures .same, c .before .if1 .taken)
+unfolding answerOf pairOf ofBits
+returns c = rw (farthest-once, ← c .before .before .before .visit-all .ensures .same, c .if1 .taken)
 
 returns-2 : tie.Need-returns-2
-unfolding answerOf pairOf
-returns-2 c = rw (farthest-once, ← c .before .visit-all .ensures .same, c .if1 .left)
+unfolding answerOf pairOf ofBits
+returns-2 c = rw (farthest-once, ← c .before .before .before .visit-all .ensures .same, c .if1 .left)
 
 pub farthest-spec : {M : Type 1} → statement M
 farthest-spec = tie.close (tie.spec visit-all-requires returns returns-2)

@@ -14,11 +14,11 @@ max-dist-sq-requires c κs = search needs
 
 returns : tie.Need-returns
 unfolding noFarther pairOf ofBits
-returns c = rw (c .before .before .if1 .taken, ← c .before .point .ensures, ← c .max-dist-sq .ensures)
+returns c = rw (c .if1 .taken)
 
 returns-2 : tie.Need-returns-2
-unfolding noFarther pairOf
-returns-2 c = rw (c .if1 .left)
+unfolding noFarther pairOf ofBits
+returns-2 c = rw (c .before .before .if1 .left, ← c .before .point .ensures, ← c .max-dist-sq .ensures)
 
 pub no-farther-spec : {M : Type 1} → statement M
 no-farther-spec = tie.close (tie.spec point-requires max-dist-sq-requires returns returns-2)

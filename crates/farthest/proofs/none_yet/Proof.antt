@@ -1,12 +1,13 @@
 -- `none_yet` meets its contract. Assumes nothing.
-use lib.Ieee.{div, ofBits}
+use mathlib.Core.Path.{refl}
+use lib.Ieee.{div, neg, ofBits, lt}
 use Rattle.farthest.proofs.BestPair.{none-held}
 use Rattle.farthest.proofs.none_yet.Statement.{statement}
 use Rattle.farthest.proofs.none_yet.Tie as tie
 
 returns : tie.Need-returns
-unfolding div ofBits
-returns c = none-held _
+unfolding div neg ofBits lt
+returns c = none-held _ refl
 
 pub none-yet-spec : {M : Type 1} → statement M
 none-yet-spec = tie.close (tie.spec returns)

@@ -5,41 +5,54 @@ use Rattle.farthest.proofs.Appended.{swept-classes}
 use Rattle.farthest.proofs.visit_all.Statement.{statement}
 use Rattle.farthest.proofs.visit_all.Tie as tie
 
-box-all-requires : tie.Need-box-all-requires
-box-all-requires c κs = search needs
-
 occurring-requires : tie.Need-occurring-requires
 occurring-requires c κs = search needs
+
+occurring-requires-2 : tie.Need-occurring-requires-2
+occurring-requires-2 c κs = search needs
+
+box-all-requires : tie.Need-box-all-requires
+box-all-requires c κs = search needs
 
 none-yet-requires : tie.Need-none-yet-requires
 none-yet-requires c κs = search needs
 
-visit-class-requires : tie.Need-visit-class-requires
-visit-class-requires c κs = search needs
+visit-occurring-requires : tie.Need-visit-occurring-requires
+visit-occurring-requires c κs =
+    let found = c .before .before in
+    let start = found .before .before .before .before .before .before in
+    (c .none-yet .ensures .sound, (start .pre .0, (found .before .occurring .ensures .points, (start .pre .1, found .occurring2 .ensures))))
 
-visit-class-requires-2 : tie.Need-visit-class-requires-2
-visit-class-requires-2 c κs = search needs
+visit-occurring-requires-2 : tie.Need-visit-occurring-requires-2
+visit-occurring-requires-2 c κs =
+    let found = c .before .before .before in
+    let start = found .before .before .before .before .before .before in
+    (c .visit-occurring .ensures .sound, (start .pre .0, (found .before .occurring .ensures .lines, (start .pre .1, found .occurring2 .ensures))))
 
-visit-class-requires-3 : tie.Need-visit-class-requires-3
-visit-class-requires-3 c κs = (c .visit-class2 .ensures .sound, (c .before .before .before .before .before .before .before .before .before .pre .0, (c .before .before .before .before .before .before .before .before .before .pre .1, c .before .before .before .occurring .ensures)))
+visit-occurring-requires-3 : tie.Need-visit-occurring-requires-3
+visit-occurring-requires-3 c κs =
+    let found = c .before .before .before .before in
+    let start = found .before .before .before .before .before .before in
+    (c .visit-occurring2 .ensures .sound, (start .pre .0, (found .before .occurring .ensures .faces, (start .pre .1, found .occurring2 .ensures))))
 
 returns : tie.Need-returns
 unfolding sweptOnce verticesOnce
 returns c =
-    rw (← c .before .before .before .before .before .box-all .ensures)
+    rw (← c .before .before .before .before .box-all .ensures)
     (swept-classes _ _ _ _ _ _ _ _ _
-    (rw (c .before .before .before .none-yet .ensures .same) at (c .before .before .visit-class .ensures))
-    (c .before .visit-class2 .ensures)
-    (c .visit-class3 .ensures))
+    (rw (c .before .before .before .none-yet .ensures .same) at (c .before .before .visit-occurring .ensures))
+    (c .before .visit-occurring2 .ensures)
+    (c .visit-occurring3 .ensures))
 
 pub visit-all-spec : {M : Type 1} → statement M
 visit-all-spec =
     tie.close
     (tie.spec
-    box-all-requires
     occurring-requires
+    occurring-requires-2
+    box-all-requires
     none-yet-requires
-    visit-class-requires
-    visit-class-requires-2
-    visit-class-requires-3
+    visit-occurring-requires
+    visit-occurring-requires-2
+    visit-occurring-requires-3
     returns)
