@@ -44,6 +44,10 @@ pub each-append : (a : Item) (s : Option Witness) (l m : List Item) → withEach
 unfolding withEach
 each-append a s l m = skipping-append _ _ s l m
 
+pub each-none : (a : Item) (s : Option Witness) (l : List Item) → l ≡ [] → withEach a s l ≡ s
+unfolding withEach skipping
+each-none a s l e = rw e
+
 pub sweep-append : (all : Aabb) (rs : List Item) (s : Option Witness) (l m : List Item) → sweepOf all rs (sweepOf all rs s l) m ≡ sweepOf all rs s (l ++ m)
 unfolding sweepOf
 sweep-append all rs s l m = skipping-append _ _ s l m

@@ -2,3 +2,8 @@
 pub mod Folds
 pub mod NoneExactly
 pub mod PointsOnly
+pub mod Spans
+pub mod ItemBoxes
+pub mod Covering
+pub mod Blocks
+pub mod OnePoint

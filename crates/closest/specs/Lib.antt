@@ -1,2 +1,5 @@
 pub mod Closest
 pub mod Inner
+pub mod Spans
+pub mod Cover
+pub mod Blocks

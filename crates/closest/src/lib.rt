@@ -7,17 +7,22 @@ use primitives::Point;
 use primitives::Witness;
 ghost use mathlib.Core.Path.{_≡_};
 ghost use mathlib.Core.Bool.{_&&_, cond};
-ghost use mathlib.Core.List.{foldl};
+ghost use mathlib.Core.List.{List, foldl};
 ghost use mathlib.Core.Option.{none};
-ghost use Prim.Native.Nat.{_+_, _*_, _≤_};
-ghost use lib.ListN.{length};
+ghost use Prim.Native.Nat.{ℕ, _+_, _*_, _<_, _≤_};
+ghost use lib.ListN.{length, take};
+ghost use lib.Seq.{sets};
+ghost use lib.Ieee.{Float};
 ghost use Rattle.primitives.specs.Boxes.{leastSquaredGap};
 ghost use Rattle.workspace.specs.Workspace.{floatsPerCoordinate};
-ghost use Rattle.parts.specs.Stored.{pointsFrom, storedRuns, Laid};
-ghost use Rattle.items.specs.Items.{itemsOf, boxOfItem};
-ghost use Rattle.items.specs.Inner.{itemOf, itemsBy, classItems, bestOf};
+ghost use Rattle.parts.specs.Stored.{pointAt, pointsFrom, storedRuns, runCount, Laid};
+ghost use Rattle.items.specs.Items.{point, itemsOf, boxOfItem};
+ghost use Rattle.items.specs.Inner.{itemOf, itemCount, itemAt, itemsBy, classItems, bestOf, Sound, Keeps};
 ghost use Rattle.closest.specs.Closest.{uniteItem, boxOfItems, noCloser, withItem, withEach, sweepOf, closestOf, answerOf};
 ghost use Rattle.closest.specs.Inner.{boundsOf, atZero};
+ghost use Rattle.closest.specs.Spans.{isOnePoint, itemsIn, itemsPast, RoomPast, itemTotal, Spanned};
+ghost use Rattle.closest.specs.Cover.{lowerOf, upperOf, coverOf, emptyCover};
+ghost use Rattle.closest.specs.Blocks.{floatsPerBox, numbersPerCursor, boxFloats, cursorNumbers, boxAt, cursorAt, Blocks, Cut, Describes, Plans, Uncut, planWith};
 
 // The closest pair of points, if both sides have an item.
 pub enum ClosestPair {
@@ -31,6 +36,40 @@ pub struct Bounds {
     pub all: Aabb,
 }
 
+// Where items of a class start: those of run r and on, whose points start at place at, but for the first j.
+pub struct Cursor {
+    pub r: usize,
+    pub at: usize,
+    pub j: usize,
+}
+
+// Where some items end, and a box that covers them.
+pub struct Span {
+    pub next: Cursor,
+    pub all: Aabb,
+}
+
+// A class of items, how many it has, and into how many blocks of size items it is cut: 0 if it is not.
+pub struct Part {
+    pub class: Class,
+    pub total: usize,
+    pub used: usize,
+    pub size: usize,
+}
+
+// The classes of a side.
+pub struct Plan {
+    pub points: Part,
+    pub segments: Part,
+    pub triangles: Part,
+}
+
+// At most so many blocks.
+const BLOCKS: usize = 128;
+
+// From so many items on, a class is cut into blocks.
+const MANY: usize = 32;
+
 // 1 - 2^-49
 const SLACK: f64 = 0.99999999999999822364316059975;
 
@@ -39,10 +78,10 @@ fn no_closer(best: Best, gap: f64) -> bool
     ensures { λ r. ⌜ r ≡ noCloser (bestOf best) gap ⌝ }
 {
     let d = best.witness.d;
-    if best.found {
-        return gap * SLACK >= d * d;
+    if d < 0.0 {
+        return false;
     }
-    false
+    gap * SLACK >= d * d
 }
 
 // Whether the sweep may stop: at 0, where that is asked for.
@@ -50,52 +89,64 @@ fn stops(stop_at_zero: bool, best: Best) -> bool
     ensures { λ r. ⌜ r ≡ («stop_at_zero» && atZero (bestOf best)) ⌝ }
 {
     if stop_at_zero {
-        if best.found {
-            return best.witness.d == 0.0;
+        let d = best.witness.d;
+        if d < 0.0 {
+            return false;
         }
+        return d == 0.0;
     }
     false
 }
 
-// Item a of A, whose box is given, with item b of B, unless it is skipped.
-fn with_item(best: Best, a: Shape, a_box: Aabb, b: Shape) -> Best
-    ensures { λ r. ⌜ bestOf r ≡ cond (noCloser (bestOf best) (leastSquaredGap «a_box» (boxOfItem (itemOf b)))) (bestOf best) (withItem (itemOf a) (bestOf best) (itemOf b)) ⌝ }
-{
-    if no_closer(best, a_box.min_dist_sq(items::box_of(b))) {
-        return best;
-    }
-    items::offer(best, a, b)
-}
-
-// Item a with the items of a run of n points of B.
-fn with_run(
+// Item a of A, whose box is given, with item j of a run of n points of B that start at place at, unless it is skipped.
+fn with_item(
     best: Best,
-    stop: bool,
     a: Shape,
     a_box: Aabb,
     class: Class,
     floats: &[f64],
     at: usize,
     n: usize,
+    j: usize,
 ) -> Best
-    requires { ⌜ («a_box» ≡ boxOfItem (itemOf a)) × (floatsPerCoordinate * (at + n) ≤ length (now floats)) ⌝ }
-    ensures { λ r. ⌜ bestOf r ≡ withEach (itemOf a) (bestOf best) (itemsBy class (pointsFrom (now (floats .entry)) at n)) ⌝ }
+    requires { ⌜ Sound best ⌝ }
+    requires { ⌜ (floatsPerCoordinate * (at + n) ≤ length (now floats)) × (j < itemCount class n) ⌝ }
+    ensures { λ r. ⌜ Keeps r (cond (noCloser (bestOf best) (leastSquaredGap «a_box» (boxOfItem (itemAt class (now (floats .entry)) at j)))) (bestOf best) (withItem (itemOf a) (bestOf best) (itemAt class (now (floats .entry)) at j))) ⌝ }
 {
-    let mut seen = best;
-    let count = items::item_count(class, n);
-    let mut j = 0;
-    while j < count {
-        if stops(stop, seen) {
-            return seen;
-        }
-        seen = with_item(seen, a, a_box, items::item_at(class, floats, at, n, j));
-        j += 1;
+    if no_closer(best, items::gap_to(class, a_box, floats, at, n, j)) {
+        return best;
     }
-    seen
+    items::offer(best, a, items::item_at(class, floats, at, n, j))
 }
 
-// Item a with the items of a class of B.
-fn with_class(
+// How many items of a class run r has.
+fn items_in(class: Class, table: &[u32], r: usize) -> usize
+    requires { ⌜ r < runCount (now table) ⌝ }
+    ensures { λ n. ⌜ n ≡ itemsIn class (now (table .entry)) r ⌝ }
+{
+    if items::is_of_class(class, parts::kind_at(table, r)) {
+        return items::item_count(class, parts::count_at(table, r));
+    }
+    0
+}
+
+// How many items of a class there are.
+fn item_total(class: Class, floats: &[f64], table: &[u32]) -> usize
+    requires { ⌜ Laid (now table) (now floats) ⌝ }
+    ensures { λ n. ⌜ n ≡ itemTotal class (now (table .entry)) ⌝ }
+{
+    let runs = parts::run_count(table);
+    let mut total = 0;
+    let mut r = 0;
+    while r < runs {
+        total += items_in(class, table, r);
+        r += 1;
+    }
+    total
+}
+
+// Item a with the next items of a class of B from a cursor on, count of them or all that are left.
+fn with_span(
     best: Best,
     stop: bool,
     a: Shape,
@@ -103,37 +154,413 @@ fn with_class(
     class: Class,
     floats: &[f64],
     table: &[u32],
+    from: Cursor,
+    count: usize,
 ) -> Best
-    requires { ⌜ («a_box» ≡ boxOfItem (itemOf a)) × Laid (now table) (now floats) ⌝ }
-    ensures { λ r. ⌜ bestOf r ≡ withEach (itemOf a) (bestOf best) (classItems class (storedRuns (now (table .entry)) (now (floats .entry)))) ⌝ }
+    requires { ⌜ Sound best ⌝ }
+    requires { ⌜ «a_box» ≡ boxOfItem (itemOf a) ⌝ }
+    requires { ⌜ RoomPast (now table) (now floats) (from .r) (from .at) ⌝ }
+    ensures { λ r. ⌜ Keeps r (withEach (itemOf a) (bestOf best) (take count (itemsPast class (now (table .entry)) (now (floats .entry)) (from .r) (from .at) (from .j)))) ⌝ }
 {
+    let runs = parts::run_count(table);
     let mut seen = best;
-    let count = parts::run_count(table);
-    let mut at = 0;
-    let mut r = 0;
-    while r < count {
-        let n = parts::count_at(table, r);
-        if items::is_of_class(class, parts::kind_at(table, r)) {
-            seen = with_run(seen, stop, a, a_box, class, floats, at, n);
+    let mut left = count;
+    let mut r = from.r;
+    let mut at = from.at;
+    let mut j = from.j;
+    while r < runs {
+        if left == 0 {
+            return seen;
         }
-        at += n;
-        r += 1;
+        if stops(stop, seen) {
+            return seen;
+        }
+        let n = parts::count_at(table, r);
+        let here = items_in(class, table, r);
+        if j < here {
+            seen = with_item(seen, a, a_box, class, floats, at, n, j);
+            j += 1;
+            left -= 1;
+        } else {
+            at += n;
+            r += 1;
+            j -= here;
+        }
     }
     seen
 }
 
-// Item a with all items of B, unless it is skipped against the box of all of them.
-fn with_all(best: Best, stop: bool, a: Shape, floats: &[f64], table: &[u32], all: Aabb) -> Best
+// The lower of two ends; -infinity if one of them is NaN.
+fn lower(k: f64, m: f64) -> f64
+    ensures { λ r. ⌜ r ≡ lowerOf k m ⌝ }
+{
+    if k <= m {
+        return k;
+    }
+    if m < k {
+        return m;
+    }
+    -1.0 / 0.0
+}
+
+// The upper of two ends; +infinity if one of them is NaN.
+fn upper(k: f64, m: f64) -> f64
+    ensures { λ r. ⌜ r ≡ upperOf k m ⌝ }
+{
+    if m <= k {
+        return k;
+    }
+    if k < m {
+        return m;
+    }
+    1.0 / 0.0
+}
+
+// A box that covers m, and all that k covers.
+fn cover(k: Aabb, m: Aabb) -> Aabb
+    ensures { λ r. ⌜ r ≡ coverOf k m ⌝ }
+{
+    Aabb {
+        lo_x: lower(k.lo_x, m.lo_x),
+        lo_y: lower(k.lo_y, m.lo_y),
+        lo_z: lower(k.lo_z, m.lo_z),
+        hi_x: upper(k.hi_x, m.hi_x),
+        hi_y: upper(k.hi_y, m.hi_y),
+        hi_z: upper(k.hi_z, m.hi_z),
+    }
+}
+
+// A cover to start from.
+fn empty_cover() -> Aabb
+    ensures { λ r. ⌜ r ≡ emptyCover ⌝ }
+{
+    let infinity = 1.0 / 0.0;
+    let minus_infinity = -infinity;
+    Aabb {
+        lo_x: infinity,
+        lo_y: infinity,
+        lo_z: infinity,
+        hi_x: minus_infinity,
+        hi_y: minus_infinity,
+        hi_z: minus_infinity,
+    }
+}
+
+// A box that covers the next items of a class from a cursor on, count of them or all that are left.
+fn cover_span(class: Class, floats: &[f64], table: &[u32], from: Cursor, count: usize) -> Span
+    requires { ⌜ RoomPast (now table) (now floats) (from .r) (from .at) ⌝ }
+    ensures { λ s. ⌜ Spanned s class (now (table .entry)) (now (floats .entry)) from count ⌝ }
+{
+    let runs = parts::run_count(table);
+    let mut all = empty_cover();
+    let mut left = count;
+    let mut r = from.r;
+    let mut at = from.at;
+    let mut j = from.j;
+    while r < runs {
+        if left == 0 {
+            return Span {
+                next: Cursor { r, at, j },
+                all,
+            };
+        }
+        let n = parts::count_at(table, r);
+        let here = items_in(class, table, r);
+        if j < here {
+            all = cover(all, items::box_of(items::item_at(class, floats, at, n, j)));
+            j += 1;
+            left -= 1;
+        } else {
+            at += n;
+            r += 1;
+            j -= here;
+        }
+    }
+    Span {
+        next: Cursor { r, at, j },
+        all,
+    }
+}
+
+// The k-th box.
+fn box_at(boxes: &[f64], k: usize) -> Aabb
+    requires { ⌜ floatsPerBox * (k + 1) ≤ length (now boxes) ⌝ }
+    ensures { λ b. ⌜ b ≡ boxAt (now (boxes .entry)) k ⌝ }
+{
+    let i = 6 * k;
+    Aabb {
+        lo_x: boxes[i],
+        lo_y: boxes[i + 1],
+        lo_z: boxes[i + 2],
+        hi_x: boxes[i + 3],
+        hi_y: boxes[i + 4],
+        hi_z: boxes[i + 5],
+    }
+}
+
+// The k-th cursor.
+fn cursor_at(starts: &[usize], k: usize) -> Cursor
+    requires { ⌜ numbersPerCursor * (k + 1) ≤ length (now starts) ⌝ }
+    ensures { λ c. ⌜ c ≡ cursorAt (now (starts .entry)) k ⌝ }
+{
+    let i = 3 * k;
+    Cursor {
+        r: starts[i],
+        at: starts[i + 1],
+        j: starts[i + 2],
+    }
+}
+
+// A box as the k-th.
+fn put_box(boxes: &mut [f64], k: usize, b: Aabb)
+    requires { ⌜ floatsPerBox * (k + 1) ≤ length (now boxes) ⌝ }
+    ensures { λ _. ⌜ now (boxes .exit) ≡ sets (now (boxes .entry)) (floatsPerBox * k) (boxFloats b) ⌝ }
+{
+    let i = 6 * k;
+    boxes[i] = b.lo_x;
+    boxes[i + 1] = b.lo_y;
+    boxes[i + 2] = b.lo_z;
+    boxes[i + 3] = b.hi_x;
+    boxes[i + 4] = b.hi_y;
+    boxes[i + 5] = b.hi_z;
+}
+
+// A cursor as the k-th.
+fn put_cursor(starts: &mut [usize], k: usize, cursor: Cursor)
+    requires { ⌜ numbersPerCursor * (k + 1) ≤ length (now starts) ⌝ }
+    ensures { λ _. ⌜ now (starts .exit) ≡ sets (now (starts .entry)) (numbersPerCursor * k) (cursorNumbers cursor) ⌝ }
+{
+    let i = 3 * k;
+    starts[i] = cursor.r;
+    starts[i + 1] = cursor.at;
+    starts[i + 2] = cursor.j;
+}
+
+// So many blocks of size items of a class.
+fn fill_blocks(
+    class: Class,
+    floats: &[f64],
+    table: &[u32],
+    size: usize,
+    used: usize,
+    boxes: &mut [f64],
+    starts: &mut [usize],
+)
     requires { ⌜ Laid (now table) (now floats) ⌝ }
-    ensures { λ r. ⌜ bestOf r ≡ cond (noCloser (bestOf best) (leastSquaredGap (boxOfItem (itemOf a)) all)) (bestOf best) (withEach (itemOf a) (bestOf best) (itemsOf (storedRuns (now (table .entry)) (now (floats .entry))))) ⌝ }
+    requires { ⌜ floatsPerBox * used ≤ length (now boxes) ⌝ }
+    requires { ⌜ numbersPerCursor * used ≤ length (now starts) ⌝ }
+    ensures { λ _. ⌜ Blocks used size class (now (table .entry)) (now (floats .entry)) (now (boxes .exit)) (now (starts .exit)) ⌝ }
+{
+    let mut next = Cursor { r: 0, at: 0, j: 0 };
+    let mut k = 0;
+    while k < used {
+        let span = cover_span(class, floats, table, next, size);
+        put_cursor(starts, k, next);
+        put_box(boxes, k, span.all);
+        next = span.next;
+        k += 1;
+    }
+}
+
+// A class cut into blocks.
+fn cut_part(
+    class: Class,
+    floats: &[f64],
+    table: &[u32],
+    boxes: &mut [f64],
+    starts: &mut [usize],
+) -> Part
+    requires { ⌜ Laid (now table) (now floats) ⌝ }
+    requires { ⌜ floatsPerBox * 128 ≤ length (now boxes) ⌝ }
+    requires { ⌜ numbersPerCursor * 128 ≤ length (now starts) ⌝ }
+    ensures { λ p. ⌜ Describes p class (now (table .entry)) (now (floats .entry)) (now (boxes .exit)) (now (starts .exit)) ⌝ }
+{
+    let total = item_total(class, floats, table);
+    let size = total / BLOCKS + 8;
+    let used = total / size + 1;
+    fill_blocks(class, floats, table, size, used, boxes, starts);
+    Part {
+        class,
+        total,
+        used,
+        size,
+    }
+}
+
+// A class, not cut.
+fn part_of(class: Class, floats: &[f64], table: &[u32]) -> Part
+    requires { ⌜ Laid (now table) (now floats) ⌝ }
+    ensures { λ p. ⌜ ((boxes : List Float) (starts : List ℕ) → Describes p class (now (table .entry)) (now (floats .entry)) boxes starts) ⌝ }
+{
+    Part {
+        class,
+        total: item_total(class, floats, table),
+        used: 0,
+        size: 0,
+    }
+}
+
+// All classes, none of them cut.
+fn plan_of(floats: &[f64], table: &[u32]) -> Plan
+    requires { ⌜ Laid (now table) (now floats) ⌝ }
+    ensures { λ p. ⌜ Uncut p (now (table .entry)) (now (floats .entry)) ⌝ }
+{
+    Plan {
+        points: part_of(Class::Points, floats, table),
+        segments: part_of(Class::Segments, floats, table),
+        triangles: part_of(Class::Triangles, floats, table),
+    }
+}
+
+// Item a with the blocks of a class of B: a block whose box is no closer is passed over.
+fn with_blocks(
+    best: Best,
+    stop: bool,
+    a: Shape,
+    a_box: Aabb,
+    part: Part,
+    floats: &[f64],
+    table: &[u32],
+    boxes: &[f64],
+    starts: &[usize],
+) -> Best
+    requires { ⌜ Sound best ⌝ }
+    requires { ⌜ «a_box» ≡ boxOfItem (itemOf a) ⌝ }
+    requires { ⌜ Cut (part .used) (part .size) (part .class) (now table) (now floats) (now boxes) (now starts) ⌝ }
+    ensures { λ r. ⌜ Keeps r (withEach (itemOf a) (bestOf best) (classItems (part .class) (storedRuns (now (table .entry)) (now (floats .entry))))) ⌝ }
+{
+    let class = part.class;
+    let used = part.used;
+    let size = part.size;
+    let mut seen = best;
+    let mut k = 0;
+    while k < used {
+        if stops(stop, seen) {
+            return seen;
+        }
+        if no_closer(seen, a_box.min_dist_sq(box_at(boxes, k))) {} else {
+            seen = with_span(
+                seen,
+                stop,
+                a,
+                a_box,
+                class,
+                floats,
+                table,
+                cursor_at(starts, k),
+                size,
+            );
+        }
+        k += 1;
+    }
+    seen
+}
+
+// Item a with the items of a class of B.
+fn with_part(
+    best: Best,
+    stop: bool,
+    a: Shape,
+    a_box: Aabb,
+    part: Part,
+    floats: &[f64],
+    table: &[u32],
+    boxes: &[f64],
+    starts: &[usize],
+) -> Best
+    requires { ⌜ Sound best ⌝ }
+    requires { ⌜ «a_box» ≡ boxOfItem (itemOf a) ⌝ }
+    requires { ⌜ Laid (now table) (now floats) ⌝ }
+    requires { ⌜ Describes part (part .class) (now table) (now floats) (now boxes) (now starts) ⌝ }
+    ensures { λ r. ⌜ Keeps r (withEach (itemOf a) (bestOf best) (classItems (part .class) (storedRuns (now (table .entry)) (now (floats .entry))))) ⌝ }
+{
+    let class = part.class;
+    let total = part.total;
+    if total == 0 {
+        return best;
+    }
+    if 0 < part.used {
+        return with_blocks(best, stop, a, a_box, part, floats, table, boxes, starts);
+    }
+    let first = Cursor { r: 0, at: 0, j: 0 };
+    with_span(best, stop, a, a_box, class, floats, table, first, total)
+}
+
+// Item a, whose box is given, with all items of B.
+fn with_classes(
+    best: Best,
+    stop: bool,
+    a: Shape,
+    a_box: Aabb,
+    floats: &[f64],
+    table: &[u32],
+    plan: Plan,
+    boxes: &[f64],
+    starts: &[usize],
+) -> Best
+    requires { ⌜ Sound best ⌝ }
+    requires { ⌜ «a_box» ≡ boxOfItem (itemOf a) ⌝ }
+    requires { ⌜ Laid (now table) (now floats) ⌝ }
+    requires { ⌜ Plans plan (now table) (now floats) (now boxes) (now starts) ⌝ }
+    ensures { λ r. ⌜ Keeps r (withEach (itemOf a) (bestOf best) (itemsOf (storedRuns (now (table .entry)) (now (floats .entry))))) ⌝ }
+{
+    let points = with_part(
+        best,
+        stop,
+        a,
+        a_box,
+        plan.points,
+        floats,
+        table,
+        boxes,
+        starts,
+    );
+    let segments = with_part(
+        points,
+        stop,
+        a,
+        a_box,
+        plan.segments,
+        floats,
+        table,
+        boxes,
+        starts,
+    );
+    with_part(
+        segments,
+        stop,
+        a,
+        a_box,
+        plan.triangles,
+        floats,
+        table,
+        boxes,
+        starts,
+    )
+}
+
+// Item a with all items of B, unless it is skipped against the box of all of them.
+fn with_all(
+    best: Best,
+    stop: bool,
+    a: Shape,
+    floats: &[f64],
+    table: &[u32],
+    all: Aabb,
+    plan: Plan,
+    boxes: &[f64],
+    starts: &[usize],
+) -> Best
+    requires { ⌜ Sound best ⌝ }
+    requires { ⌜ Laid (now table) (now floats) ⌝ }
+    requires { ⌜ Plans plan (now table) (now floats) (now boxes) (now starts) ⌝ }
+    ensures { λ r. ⌜ Keeps r (cond (noCloser (bestOf best) (leastSquaredGap (boxOfItem (itemOf a)) all)) (bestOf best) (withEach (itemOf a) (bestOf best) (itemsOf (storedRuns (now (table .entry)) (now (floats .entry)))))) ⌝ }
 {
     let a_box = items::box_of(a);
     if no_closer(best, a_box.min_dist_sq(all)) {
         return best;
     }
-    let points = with_class(best, stop, a, a_box, Class::Points, floats, table);
-    let segments = with_class(points, stop, a, a_box, Class::Segments, floats, table);
-    with_class(segments, stop, a, a_box, Class::Triangles, floats, table)
+    with_classes(best, stop, a, a_box, floats, table, plan, boxes, starts)
 }
 
 // The items of a run of n points of A, each with all items of B.
@@ -147,9 +574,15 @@ fn from_run(
     floats2: &[f64],
     table2: &[u32],
     all: Aabb,
+    plan: Plan,
+    boxes: &[f64],
+    starts: &[usize],
 ) -> Best
-    requires { ⌜ (floatsPerCoordinate * (at + n) ≤ length (now floats1)) × Laid (now table2) (now floats2) ⌝ }
-    ensures { λ r. ⌜ bestOf r ≡ sweepOf all (itemsOf (storedRuns (now (table2 .entry)) (now (floats2 .entry)))) (bestOf best) (itemsBy class (pointsFrom (now (floats1 .entry)) at n)) ⌝ }
+    requires { ⌜ Sound best ⌝ }
+    requires { ⌜ floatsPerCoordinate * (at + n) ≤ length (now floats1) ⌝ }
+    requires { ⌜ Laid (now table2) (now floats2) ⌝ }
+    requires { ⌜ Plans plan (now table2) (now floats2) (now boxes) (now starts) ⌝ }
+    ensures { λ r. ⌜ Keeps r (sweepOf all (itemsOf (storedRuns (now (table2 .entry)) (now (floats2 .entry)))) (bestOf best) (itemsBy class (pointsFrom (now (floats1 .entry)) at n))) ⌝ }
 {
     let mut seen = best;
     let count = items::item_count(class, n);
@@ -165,6 +598,9 @@ fn from_run(
             floats2,
             table2,
             all,
+            plan,
+            boxes,
+            starts,
         );
         j += 1;
     }
@@ -181,9 +617,15 @@ fn from_class(
     floats2: &[f64],
     table2: &[u32],
     all: Aabb,
+    plan: Plan,
+    boxes: &[f64],
+    starts: &[usize],
 ) -> Best
-    requires { ⌜ Laid (now table1) (now floats1) × Laid (now table2) (now floats2) ⌝ }
-    ensures { λ r. ⌜ bestOf r ≡ sweepOf all (itemsOf (storedRuns (now (table2 .entry)) (now (floats2 .entry)))) (bestOf best) (classItems class (storedRuns (now (table1 .entry)) (now (floats1 .entry)))) ⌝ }
+    requires { ⌜ Sound best ⌝ }
+    requires { ⌜ Laid (now table1) (now floats1) ⌝ }
+    requires { ⌜ Laid (now table2) (now floats2) ⌝ }
+    requires { ⌜ Plans plan (now table2) (now floats2) (now boxes) (now starts) ⌝ }
+    ensures { λ r. ⌜ Keeps r (sweepOf all (itemsOf (storedRuns (now (table2 .entry)) (now (floats2 .entry)))) (bestOf best) (classItems class (storedRuns (now (table1 .entry)) (now (floats1 .entry))))) ⌝ }
 {
     let mut seen = best;
     let count = parts::run_count(table1);
@@ -192,7 +634,20 @@ fn from_class(
     while r < count {
         let n = parts::count_at(table1, r);
         if items::is_of_class(class, parts::kind_at(table1, r)) {
-            seen = from_run(seen, stop, class, floats1, at, n, floats2, table2, all);
+            seen = from_run(
+                seen,
+                stop,
+                class,
+                floats1,
+                at,
+                n,
+                floats2,
+                table2,
+                all,
+                plan,
+                boxes,
+                starts,
+            );
         }
         at += n;
         r += 1;
@@ -209,9 +664,15 @@ fn sweep(
     floats2: &[f64],
     table2: &[u32],
     all: Aabb,
+    plan: Plan,
+    boxes: &[f64],
+    starts: &[usize],
 ) -> Best
-    requires { ⌜ Laid (now table1) (now floats1) × Laid (now table2) (now floats2) ⌝ }
-    ensures { λ r. ⌜ bestOf r ≡ sweepOf all (itemsOf (storedRuns (now (table2 .entry)) (now (floats2 .entry)))) (bestOf best) (itemsOf (storedRuns (now (table1 .entry)) (now (floats1 .entry)))) ⌝ }
+    requires { ⌜ Sound best ⌝ }
+    requires { ⌜ Laid (now table1) (now floats1) ⌝ }
+    requires { ⌜ Laid (now table2) (now floats2) ⌝ }
+    requires { ⌜ Plans plan (now table2) (now floats2) (now boxes) (now starts) ⌝ }
+    ensures { λ r. ⌜ Keeps r (sweepOf all (itemsOf (storedRuns (now (table2 .entry)) (now (floats2 .entry)))) (bestOf best) (itemsOf (storedRuns (now (table1 .entry)) (now (floats1 .entry))))) ⌝ }
 {
     let points = from_class(
         best,
@@ -222,6 +683,9 @@ fn sweep(
         floats2,
         table2,
         all,
+        plan,
+        boxes,
+        starts,
     );
     let segments = from_class(
         points,
@@ -232,6 +696,9 @@ fn sweep(
         floats2,
         table2,
         all,
+        plan,
+        boxes,
+        starts,
     );
     from_class(
         segments,
@@ -242,6 +709,9 @@ fn sweep(
         floats2,
         table2,
         all,
+        plan,
+        boxes,
+        starts,
     )
 }
 
@@ -317,19 +787,150 @@ fn box_all(floats: &[f64], table: &[u32]) -> Bounds
     box_class(segments, Class::Triangles, floats, table)
 }
 
-// No witness so far.
-fn nothing() -> Best
-    ensures { λ r. ⌜ bestOf r ≡ none ⌝ }
-{
-    let origin = Point {
-        x: 0.0,
-        y: 0.0,
-        z: 0.0,
-    };
-    Best {
-        found: false,
-        witness: Witness::between(origin, origin),
+// The class that has the most items.
+fn largest(plan: Plan) -> Class {
+    if plan.triangles.total < plan.points.total {
+        if plan.segments.total < plan.points.total {
+            return Class::Points;
+        }
+        return Class::Segments;
     }
+    if plan.triangles.total < plan.segments.total {
+        return Class::Segments;
+    }
+    Class::Triangles
+}
+
+// Whether a class has many items.
+fn is_large(plan: Plan) -> bool {
+    MANY <= plan.points.total || MANY <= plan.segments.total || MANY <= plan.triangles.total
+}
+
+// The plan with another part for the part's class.
+fn plan_with(plan: Plan, part: Part) -> Plan
+    ensures { λ r. ⌜ r ≡ planWith (part .class) plan part ⌝ }
+{
+    let class = part.class;
+    let points = plan.points;
+    let segments = plan.segments;
+    let triangles = plan.triangles;
+    match class {
+        Class::Points => Plan {
+            points: part,
+            segments,
+            triangles,
+        },
+        Class::Segments => Plan {
+            points,
+            segments: part,
+            triangles,
+        },
+        Class::Triangles => Plan {
+            points,
+            segments,
+            triangles: part,
+        },
+    }
+}
+
+// The sweep where B has few items of each class: none is cut.
+fn sweep_few(
+    stop: bool,
+    floats1: &[f64],
+    table1: &[u32],
+    floats2: &[f64],
+    table2: &[u32],
+    all: Aabb,
+    plan: Plan,
+) -> Best
+    requires { ⌜ Laid (now table1) (now floats1) ⌝ }
+    requires { ⌜ Laid (now table2) (now floats2) ⌝ }
+    requires { ⌜ Uncut plan (now table2) (now floats2) ⌝ }
+    ensures { λ r. ⌜ Keeps r (sweepOf all (itemsOf (storedRuns (now (table2 .entry)) (now (floats2 .entry)))) none (itemsOf (storedRuns (now (table1 .entry)) (now (floats1 .entry))))) ⌝ }
+{
+    let boxes = [0.0; 1];
+    let starts = [0usize; 1];
+    sweep(
+        items::none_yet(),
+        stop,
+        floats1,
+        table1,
+        floats2,
+        table2,
+        all,
+        plan,
+        &boxes,
+        &starts,
+    )
+}
+
+// The sweep where B has many: its largest class is cut.
+fn sweep_many(
+    stop: bool,
+    floats1: &[f64],
+    table1: &[u32],
+    floats2: &[f64],
+    table2: &[u32],
+    all: Aabb,
+    plan: Plan,
+) -> Best
+    requires { ⌜ Laid (now table1) (now floats1) ⌝ }
+    requires { ⌜ Laid (now table2) (now floats2) ⌝ }
+    requires { ⌜ Uncut plan (now table2) (now floats2) ⌝ }
+    ensures { λ r. ⌜ Keeps r (sweepOf all (itemsOf (storedRuns (now (table2 .entry)) (now (floats2 .entry)))) none (itemsOf (storedRuns (now (table1 .entry)) (now (floats1 .entry))))) ⌝ }
+{
+    let mut boxes = [0.0; 768];
+    let mut starts = [0usize; 384];
+    let part = cut_part(largest(plan), floats2, table2, &mut boxes, &mut starts);
+    let cut = plan_with(plan, part);
+    sweep(
+        items::none_yet(),
+        stop,
+        floats1,
+        table1,
+        floats2,
+        table2,
+        all,
+        cut,
+        &boxes,
+        &starts,
+    )
+}
+
+// Whether a table holds one point and nothing else.
+fn is_one_point(table: &[u32]) -> bool
+    ensures { λ r. ⌜ r ≡ isOnePoint (now (table .entry)) ⌝ }
+{
+    if parts::run_count(table) == 1 {
+        if parts::kind_at(table, 0) == 1 {
+            return parts::count_at(table, 0) == 1;
+        }
+    }
+    false
+}
+
+// The first point of A with all items of B: no box of B is needed.
+fn from_one_point(stop: bool, floats1: &[f64], floats2: &[f64], table2: &[u32], plan: Plan) -> Best
+    requires { ⌜ floatsPerCoordinate * (0 + 1) ≤ length (now floats1) ⌝ }
+    requires { ⌜ Laid (now table2) (now floats2) ⌝ }
+    requires { ⌜ Uncut plan (now table2) (now floats2) ⌝ }
+    ensures { λ r. ⌜ Keeps r (withEach (point (pointAt (now (floats1 .entry)) 0)) none (itemsOf (storedRuns (now (table2 .entry)) (now (floats2 .entry))))) ⌝ }
+{
+    let a = items::item_at(Class::Points, floats1, 0, 1, 0);
+    let a_box = items::box_of(a);
+    let boxes = [0.0; 1];
+    let starts = [0usize; 1];
+    with_classes(
+        items::none_yet(),
+        stop,
+        a,
+        a_box,
+        floats2,
+        table2,
+        plan,
+        &boxes,
+        &starts,
+    )
 }
 
 // The best as an answer.
@@ -337,10 +938,10 @@ fn answered(last: Best) -> ClosestPair
     ensures { λ r. ⌜ r ≡ answerOf (bestOf last) ⌝ }
 {
     let w = last.witness;
-    if last.found {
-        return ClosestPair::Found(w);
+    if w.d < 0.0 {
+        return ClosestPair::Nothing;
     }
-    ClosestPair::Nothing
+    ClosestPair::Found(w)
 }
 
 // The closest pair of points of two workspaces' items. Stopping at 0 changes no answer.
@@ -355,18 +956,17 @@ pub fn closest(
     requires { ⌜ Laid (now table2) (now floats2) ⌝ }
     ensures { λ r. ⌜ r ≡ answerOf (closestOf (itemsOf (storedRuns (now (table1 .entry)) (now (floats1 .entry)))) (itemsOf (storedRuns (now (table2 .entry)) (now (floats2 .entry))))) ⌝ }
 {
+    let plan = plan_of(floats2, table2);
+    if is_one_point(table1) {
+        return answered(from_one_point(stop_at_zero, floats1, floats2, table2, plan));
+    }
     let bounds = box_all(floats2, table2);
     let all = bounds.all;
     if bounds.found {
-        return answered(sweep(
-            nothing(),
-            stop_at_zero,
-            floats1,
-            table1,
-            floats2,
-            table2,
-            all,
-        ));
+        if is_large(plan) {
+            return answered(sweep_many(stop_at_zero, floats1, table1, floats2, table2, all, plan));
+        }
+        return answered(sweep_few(stop_at_zero, floats1, table1, floats2, table2, all, plan));
     }
     ClosestPair::Nothing
 }

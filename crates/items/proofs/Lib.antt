@@ -3,3 +3,8 @@ pub mod Laws
 pub mod Turns
 pub mod NotBelowZero
 pub mod PointRuns
+pub mod Roots
+pub mod BestWitness
+pub mod Smallest
+pub mod NearestEdge
+pub mod TwoTriangles

@@ -1,18 +1,12 @@
--- The distance of a candidate is a root or +infinity, so it is never below 0. Assumes nothing.
-use mathlib.Core.Path.{_≡_, refl, sym, _∙_}
-use mathlib.Core.Bool.{Bool, true, false, _&&_, cond, false≢true}
+-- The distance of a candidate is a root or +infinity: a value of binary64 that is never below 0. Assumes nothing.
+use mathlib.Core.Bool.{Bool, true, false, cond}
 use mathlib.Core.List.{List, [], _∷_}
-use Prim.Native.Nat.{ℕ, zero, suc, _+_, _*_}
-use native.Mathlib.Nat.{zero-mul, mul-one}
-use native.Mathlib.Omega.{arith}
-use borrow.Author.Tests.{eqb-true, le-ltb}
-use lib.IntN.{ℤ}
-use lib.Dec.{T, ltb, eqb}
-use lib.Ieee.{Float, nan, inf, fin, binary64, up, down, lt, le, eq, fits}
+use lib.Dec.{T}
+use lib.Ieee.{inf, binary64, lt, le, eq, fits}
 use Rattle.ieee754.specs.MinMax.{positiveZero}
 use Rattle.ieee754.specs.Root.{rootOf}
-use Rattle.ieee754.proofs.SignClear.{signClear}
-use Rattle.ieee754.proofs.RootLaws.{root-sign-clear}
+use Rattle.ieee754.proofs.RootLaws.{root-fits}
+use Rattle.ieee754.proofs.NotBelowZero.{NotBelow, clear-not-below, root-not-below}
 use Rattle.ieee754.proofs.SumsAndSquares.{sum-of-squares-fits}
 use Rattle.primitives.specs.declared.Point.{Point}
 use Rattle.primitives.specs.declared.Witness.{Witness}
@@ -23,53 +17,11 @@ use Rattle.extremes.proofs.Lists.{Each}
 use Rattle.items.specs.Items.{Item, point, segment, triangle}
 use Rattle.items.specs.Candidates.{candidatesOf}
 
--- not less than +0 or -0
-abbrev pub NotBelow : Float → Type 0
-NotBelow x = (z : Float) → eq z positiveZero ≡ true → lt x z ≡ false
-
--- ---- floats
-both-left : (a b : Bool) → (a && b) ≡ true → a ≡ true
-both-left true b e = refl
-both-left false b e = absurd (false≢true e)
-
-zero-value : (t : Bool) (n : ℕ) (d : ℤ) → eq (fin t n d) positiveZero ≡ true → n * up d ≡ 0
-unfolding eq
-zero-value t n d e = sym (mul-one (n * up d)) ∙ eqb-true _ _ (both-left _ _ e) ∙ zero-mul (down d)
-
-none-below : (a b k : ℕ) → b ≡ 0 → ltb a (b * k) ≡ false
-none-below a b k e = rw e (rw (zero-mul k) (le-ltb a 0 (omega arith)))
-
-clear-not-below : (x : Float) → T (signClear x) → NotBelow x
-clear-not-below (inf false) c nan e = unfold lt in refl
-clear-not-below (inf false) c (inf t) e = unfold lt in refl
-clear-not-below (inf false) c (fin t n d) e = unfold lt in refl
-clear-not-below (fin false m k) c nan e = unfold lt in refl
-clear-not-below (fin false m k) c (inf t) e = absurd (false≢true (unfold eq in e))
-clear-not-below (fin false m k) c (fin true n d) e = unfold lt in refl
-clear-not-below (fin false m k) c (fin false n d) e = unfold lt in none-below (m * up k * down d) (n * up d) (down k) (zero-value false n d e)
-
-nan-not-below : NotBelow nan
-unfolding lt
-nan-not-below z e = refl
-
-negative-zero-not-below : (k : ℤ) → NotBelow (fin true 0 k)
-negative-zero-not-below k nan e = unfold lt in refl
-negative-zero-not-below k (inf t) e = absurd (false≢true (unfold eq in e))
-negative-zero-not-below k (fin true n d) e = unfold lt in rw (zero-mul (up k)) (none-below (n * up d * down k) 0 (down d) refl)
-negative-zero-not-below k (fin false n d) e = unfold lt in rw (zero-mul (up k), zero-mul (down d), zero-value false n d e, zero-mul (down k))
-
-root-not-below : (x : Float) → T (fits binary64 x) → NotBelow (rootOf x)
-root-not-below nan f = unfold rootOf in nan-not-below
-root-not-below (inf true) f = unfold rootOf in nan-not-below
-root-not-below (inf false) f = clear-not-below (rootOf (inf false)) (root-sign-clear (inf false) tt f)
-root-not-below (fin true zero e) f = unfold rootOf in negative-zero-not-below e
-root-not-below (fin true (suc m) e) f = unfold rootOf in nan-not-below
-root-not-below (fin false m e) f = clear-not-below (rootOf (fin false m e)) (root-sign-clear (fin false m e) tt f)
-
 -- ---- witnesses
--- a witness whose distance is not below 0
+-- a witness whose distance is a value of binary64 and not below 0
 pub record Distant (w : Witness) : Type 0 where
   pub distance : NotBelow (w .d)
+  pub fit : T (fits binary64 (w .d))
 
 either : (b : Bool) (w v : Witness) → Distant w → Distant v → Distant (cond b w v)
 either true w v p q = p
@@ -83,20 +35,22 @@ closer : (w v : Witness) → Distant w → Distant v → Distant (closerOf w v)
 unfolding closerOf
 closer w v p q = either (eq (w .d) positiveZero) w (smallerOf w v) p (smaller w v p q)
 
-flipped : (w : Witness) → Distant w → Distant (flippedOf w)
+pub flipped : (w : Witness) → Distant w → Distant (flippedOf w)
 unfolding flippedOf witnessOf
-flipped w p = record { distance = p .distance }
+flipped w p = record { distance = p .distance; fit = p .fit }
 
 between : (a b : Point) → Distant (betweenOf a b)
 unfolding betweenOf witnessOf
-between a b = record { distance = root-not-below (squaredDistance a b) (unfold squaredDistance dotOf in sum-of-squares-fits _ _ _) }
+between a b =
+    let f : T (fits binary64 (squaredDistance a b)) = unfold squaredDistance dotOf in sum-of-squares-fits _ _ _ in
+    record { distance = root-not-below (squaredDistance a b) f; fit = root-fits (squaredDistance a b) f }
 
-infinite : (a b : Point) → Distant (infinitelyFar a b)
+pub infinite : (a b : Point) → Distant (infinitelyFar a b)
 unfolding infinitelyFar witnessOf
-infinite a b = record { distance = clear-not-below (inf false) tt }
+infinite a b = record { distance = clear-not-below (inf false) tt; fit = unfold fits in tt }
 
 -- ---- measures
-point-segment : (p a b : Point) → Distant (pointSegment p a b)
+pub point-segment : (p a b : Point) → Distant (pointSegment p a b)
 unfolding pointSegment
 point-segment p a b = between _ _
 
@@ -104,14 +58,14 @@ long-segments : (p q u v : Point) → Distant (longSegments p q u v)
 unfolding longSegments atParameters
 long-segments p q u v = between _ _
 
-segment-segment : (p q u v : Point) → Distant (segmentSegment p q u v)
+pub segment-segment : (p q u v : Point) → Distant (segmentSegment p q u v)
 unfolding segmentSegment
 segment-segment p q u v =
     either (le (squaredDistance q p) epsilon) _ _
     (either (le (squaredDistance v u) epsilon) _ _ (between p u) (point-segment p u v))
     (either (le (squaredDistance v u) epsilon) _ _ (flipped _ (point-segment u p q)) (long-segments p q u v))
 
-point-triangle : (p a b c : Point) → Distant (pointTriangle p a b c)
+pub point-triangle : (p a b c : Point) → Distant (pointTriangle p a b c)
 unfolding pointTriangle pointEdges
 point-triangle p a b c =
     either (footInside p a b c (normalOf a b c)) _ _ (between p (footOf p a (normalOf a b c)))

@@ -1,11 +1,17 @@
 -- What the items and the best witness by value stand for. Serves inner contracts. Definitions only.
 use Prim.Native.Nat.{ℕ, _+_, _-_}
-use mathlib.Core.Bool.{Bool, cond}
-use mathlib.Core.List.{List, foldl}
+use mathlib.Core.Path.{_≡_}
+use mathlib.Core.Bool.{Bool, true, false, cond, _&&_}
+use mathlib.Core.List.{List, [], _∷_, _++_, foldl}
 use mathlib.Core.Option.{Option, none, some}
-use lib.Ieee.{Float}
+use lib.Dec.{T}
+use lib.Ieee.{Float, nan, binary64, lt, le, fits}
+use Rattle.ieee754.specs.MinMax.{positiveZero}
+use Rattle.ieee754.specs.Root.{rootOf}
 use Rattle.primitives.specs.declared.Point.{Point}
 use Rattle.primitives.specs.declared.Witness.{Witness}
+use Rattle.primitives.specs.Witnesses.{flippedOf}
+use Rattle.measures.specs.Measures.{segmentSegment, pointTriangle}
 use Rattle.extremes.specs.Sweeps.{shorter, taking}
 use Rattle.coords.specs.Parts.{Run, isPoint, isLine, isFace}
 use Rattle.parts.specs.Stored.{pointAt}
@@ -52,10 +58,49 @@ itemAt Points floats at j = point (pointAt floats (at + j))
 itemAt Segments floats at j = segment (pointAt floats (at + j)) (pointAt floats (at + j + 1))
 itemAt Triangles floats at j = triangle (pointAt floats at) (pointAt floats (at + j + 1)) (pointAt floats (at + j + 2))
 
--- the witness, if one was found
+-- the witness; a distance below 0 stands for none
 abbrev pub bestOf : Best → Option Witness
-bestOf best = cond (best .found) (some (best .witness)) none
+bestOf best = cond (lt (best .witness .d) positiveZero) none (some (best .witness))
+
+-- the sum is NaN while there is no witness, and else what its distance is the root of
+pub record Sound (b : Best) : Type 0 where
+  pub empty : lt (b .witness .d) positiveZero ≡ true → b .sum ≡ nan
+  pub root : lt (b .witness .d) positiveZero ≡ false → b .witness .d ≡ rootOf (b .sum)
+  pub fitting : T (fits binary64 (b .sum))
+
+-- b is sound and has that best
+pub record Keeps (b : Best) (best : Option Witness) : Type 0 where
+  pub same : bestOf b ≡ best
+  pub sound : Sound b
+
+-- none of three sums is less than the best's
+abbrev pub noneLess : Float → Float → Float → Float → Bool
+noneLess least x y z = le least x && (le least y && le least z)
 
 -- witnesses offered in order: the first is taken, a later one only if strictly closer
 abbrev pub offeredAll : Option Witness → List Witness → Option Witness
 offeredAll best ws = foldl (taking shorter) best ws
+
+-- the points exchanged where that is asked for
+abbrev pub flippedIf : Bool → Witness → Witness
+flippedIf flip w = cond flip (flippedOf w) w
+
+-- a segment with the edges of a triangle
+abbrev pub edgeWitnesses : Point → Point → Point → Point → Point → List Witness
+edgeWitnesses p q a b c = segmentSegment p q a b ∷ segmentSegment p q b c ∷ segmentSegment p q c a ∷ []
+
+-- the vertices of a triangle with another triangle
+abbrev pub vertexWitnesses : Bool → Point → Point → Point → Point → Point → Point → List Witness
+vertexWitnesses flip a b c d e f =
+    flippedIf flip (pointTriangle a d e f)
+    ∷ flippedIf flip (pointTriangle b d e f)
+    ∷ flippedIf flip (pointTriangle c d e f)
+    ∷ []
+
+-- what two triangles are measured by, in order: the edges of the first with those of the second, then the vertices of each
+abbrev pub triangleWitnesses : Point → Point → Point → Point → Point → Point → List Witness
+triangleWitnesses a b c d e f =
+    edgeWitnesses a b d e f
+    ++ (edgeWitnesses b c d e f
+    ++ (edgeWitnesses c a d e f
+    ++ (vertexWitnesses false a b c d e f ++ vertexWitnesses true d e f a b c)))

@@ -1,15 +1,22 @@
 // Items of the closest sweep, by value, and what two of them offer.
+use measures::Squared;
 use primitives::Aabb;
 use primitives::Point;
 use primitives::Witness;
 ghost use mathlib.Core.Path.{_≡_};
+ghost use mathlib.Core.Option.{none};
 ghost use Prim.Native.Nat.{_+_, _-_, _*_, _≤_, _<_};
+ghost use lib.Dec.{T};
+ghost use lib.Ieee.{binary64, fits};
 ghost use lib.ListN.{length};
 ghost use Rattle.workspace.specs.Workspace.{floatsPerCoordinate};
+ghost use Rattle.primitives.specs.Boxes.{leastSquaredGap};
+ghost use Rattle.measures.specs.Measures.{pointEdges, pointTriangle, triangleTriangle};
+ghost use Rattle.measures.specs.Squared.{rooted};
 ghost use Rattle.extremes.specs.Sweeps.{shorter, taking};
 ghost use Rattle.items.specs.Items.{point, segment, triangle, boxOfItem};
 ghost use Rattle.items.specs.Candidates.{candidatesOf};
-ghost use Rattle.items.specs.Inner.{itemOf, isOfClass, itemCount, itemAt, bestOf, offeredAll};
+ghost use Rattle.items.specs.Inner.{itemOf, isOfClass, itemCount, itemAt, bestOf, Sound, Keeps, noneLess, offeredAll, flippedIf, edgeWitnesses, vertexWitnesses};
 
 // The classes of items.
 pub enum Class {
@@ -85,10 +92,18 @@ pub fn item_at(class: Class, floats: &[f64], at: usize, n: usize, j: usize) -> S
     }
 }
 
-// The best witness so far, if one was found.
-pub struct Best {
-    pub found: bool,
-    pub witness: Witness,
+// The box of a segment.
+fn segment_box(a: Point, b: Point) -> Aabb
+    ensures { λ r. ⌜ r ≡ boxOfItem (segment a b) ⌝ }
+{
+    Aabb::point(a).add(b)
+}
+
+// The box of a triangle.
+fn triangle_box(a: Point, b: Point, c: Point) -> Aabb
+    ensures { λ r. ⌜ r ≡ boxOfItem (triangle a b c) ⌝ }
+{
+    segment_box(a, b).add(c)
 }
 
 // The box of an item.
@@ -98,109 +113,284 @@ pub fn box_of(s: Shape) -> Aabb
     let class = s.class;
     let a = s.a;
     let b = s.b;
+    let c = s.c;
     match class {
         Class::Points => Aabb::point(a),
-        Class::Segments => Aabb::point(a).add(b),
+        Class::Segments => segment_box(a, b),
+        Class::Triangles => triangle_box(a, b, c),
+    }
+}
+
+// The least squared gap of a box to item j of a run of n points that start at place at.
+pub fn gap_to(class: Class, a_box: Aabb, floats: &[f64], at: usize, n: usize, j: usize) -> f64
+    requires { ⌜ (floatsPerCoordinate * (at + n) ≤ length (now floats)) × (j < itemCount class n) ⌝ }
+    ensures { λ r. ⌜ r ≡ leastSquaredGap «a_box» (boxOfItem (itemAt class (now (floats .entry)) at j)) ⌝ }
+{
+    let next = at + j;
+    match class {
+        Class::Points => a_box.min_dist_sq(Aabb::point(parts::point_at(floats, next))),
+        Class::Segments => {
+            let a = parts::point_at(floats, next);
+            let b = parts::point_at(floats, next + 1);
+            a_box.min_dist_sq(segment_box(a, b))
+        }
         Class::Triangles => {
-            let c = s.c;
-            Aabb::point(a).add(b).add(c)
+            let first = parts::point_at(floats, at);
+            let b = parts::point_at(floats, next + 1);
+            let c = parts::point_at(floats, next + 2);
+            a_box.min_dist_sq(triangle_box(first, b, c))
         }
     }
 }
 
-// The first witness is taken, a later one only if strictly closer.
-fn offered(best: Best, w: Witness) -> Best
-    ensures { λ r. ⌜ bestOf r ≡ taking shorter (bestOf best) w ⌝ }
+// The best witness so far and the sum of squares that its distance is the root of. While there is none, the distance is below 0 and the sum NaN.
+pub struct Best {
+    pub sum: f64,
+    pub witness: Witness,
+}
+
+// No witness yet.
+pub fn none_yet() -> Best
+    ensures { λ r. ⌜ Keeps r none ⌝ }
 {
-    let seen = best.witness;
-    if best.found {
-        return Best {
-            found: true,
-            witness: seen.min(w),
-        };
+    Best {
+        sum: 0.0 / 0.0,
+        witness: Witness {
+            d: -1.0,
+            ax: 0.0,
+            ay: 0.0,
+            az: 0.0,
+            bx: 0.0,
+            by: 0.0,
+            bz: 0.0,
+        },
+    }
+}
+
+// The first witness is taken, a later one only if its root is strictly less.
+fn closer(best: Best, s: Squared) -> Best
+    requires { ⌜ Sound best ⌝ }
+    requires { ⌜ T (fits binary64 (s .sum)) ⌝ }
+    ensures { λ r. ⌜ Keeps r (taking shorter (bestOf best) (rooted s)) ⌝ }
+{
+    let d = ieee754::root(s.sum);
+    let least = best.witness.d;
+    if least < 0.0 {} else {
+        if d < least {} else {
+            return best;
+        }
     }
     Best {
-        found: true,
-        witness: w,
+        sum: s.sum,
+        witness: Witness {
+            d,
+            ax: s.a.x,
+            ay: s.a.y,
+            az: s.a.z,
+            bx: s.b.x,
+            by: s.b.y,
+            bz: s.b.z,
+        },
     }
+}
+
+// The same, its points exchanged where that is asked for. No root is taken where the sum is not less than the best's.
+fn offered(best: Best, s: Squared, flip: bool) -> Best
+    requires { ⌜ Sound best ⌝ }
+    requires { ⌜ T (fits binary64 (s .sum)) ⌝ }
+    ensures { λ r. ⌜ Keeps r (taking shorter (bestOf best) (flippedIf flip (rooted s))) ⌝ }
+{
+    if s.sum >= best.sum {
+        return best;
+    }
+    if flip {
+        return closer(best, s.flipped());
+    }
+    closer(best, s)
+}
+
+// Whether none of three sums of squares is less than the best's.
+fn none_less(least: f64, x: f64, y: f64, z: f64) -> bool
+    ensures { λ r. ⌜ r ≡ noneLess least x y z ⌝ }
+{
+    if x >= least {
+        if y >= least {
+            return z >= least;
+        }
+    }
+    false
+}
+
+// A point and the nearest of a triangle's edges, edge by edge; the first is kept where its distance is NaN.
+fn pt_edges(best: Best, p: Point, a: Point, b: Point, c: Point, flip: bool) -> Best
+    requires { ⌜ Sound best ⌝ }
+    ensures { λ r. ⌜ Keeps r (taking shorter (bestOf best) (flippedIf flip (pointEdges p a b c))) ⌝ }
+{
+    let x = measures::pt_seg(p, a, b);
+    let y = measures::pt_seg(p, b, c);
+    let z = measures::pt_seg(p, c, a);
+    if none_less(best.sum, x.sum, y.sum, z.sum) {
+        return best;
+    }
+    let first = offered(best, x, flip);
+    if x.sum >= 0.0 {
+        return offered(offered(first, y, flip), z, flip);
+    }
+    first
+}
+
+// A point and a filled triangle: the foot where it lies inside, else the nearest edge.
+fn pt_tri(best: Best, p: Point, a: Point, b: Point, c: Point, flip: bool) -> Best
+    requires { ⌜ Sound best ⌝ }
+    ensures { λ r. ⌜ Keeps r (taking shorter (bestOf best) (flippedIf flip (pointTriangle p a b c))) ⌝ }
+{
+    let f = measures::plane_foot(p, a, b, c);
+    if f.inside {
+        let foot = f.foot;
+        return offered(best, Squared::between(p, foot), flip);
+    }
+    pt_edges(best, p, a, b, c, flip)
+}
+
+// The segment p q against the edges of a b c; a best of distance 0 stays.
+fn seg_edges(best: Best, p: Point, q: Point, a: Point, b: Point, c: Point) -> Best
+    requires { ⌜ Sound best ⌝ }
+    ensures { λ r. ⌜ Keeps r (offeredAll (bestOf best) (edgeWitnesses p q a b c)) ⌝ }
+{
+    if best.sum == 0.0 {
+        return best;
+    }
+    let x = measures::seg_seg(p, q, a, b);
+    let y = measures::seg_seg(p, q, b, c);
+    let z = measures::seg_seg(p, q, c, a);
+    if none_less(best.sum, x.sum, y.sum, z.sum) {
+        return best;
+    }
+    offered(offered(offered(best, x, false), y, false), z, false)
+}
+
+// Each vertex of a b c against the triangle d e f; a best of distance 0 stays.
+fn vertices(
+    best: Best,
+    a: Point,
+    b: Point,
+    c: Point,
+    d: Point,
+    e: Point,
+    f: Point,
+    flip: bool,
+) -> Best
+    requires { ⌜ Sound best ⌝ }
+    ensures { λ r. ⌜ Keeps r (offeredAll (bestOf best) (vertexWitnesses flip a b c d e f)) ⌝ }
+{
+    if best.sum == 0.0 {
+        return best;
+    }
+    let first = pt_tri(best, a, d, e, f, flip);
+    let second = pt_tri(first, b, d, e, f, flip);
+    pt_tri(second, c, d, e, f, flip)
+}
+
+// Two filled triangles: +infinity, each pair of edges, then the vertices of each against the other.
+fn tri_tri(best: Best, a: Point, b: Point, c: Point, d: Point, e: Point, f: Point) -> Best
+    requires { ⌜ Sound best ⌝ }
+    ensures { λ r. ⌜ Keeps r (taking shorter (bestOf best) (triangleTriangle a b c d e f)) ⌝ }
+{
+    let infinity = Squared {
+        sum: 1.0 / 0.0,
+        a,
+        b: d,
+    };
+    let start = offered(best, infinity, false);
+    let first = seg_edges(start, a, b, d, e, f);
+    let second = seg_edges(first, b, c, d, e, f);
+    let third = seg_edges(second, c, a, d, e, f);
+    vertices(
+        vertices(third, a, b, c, d, e, f, false),
+        d,
+        e,
+        f,
+        a,
+        b,
+        c,
+        true,
+    )
 }
 
 // A point of A with an item of B.
 fn from_point(best: Best, p: Point, i: Shape) -> Best
-    ensures { λ r. ⌜ bestOf r ≡ offeredAll (bestOf best) (candidatesOf (point p) (itemOf i)) ⌝ }
+    requires { ⌜ Sound best ⌝ }
+    ensures { λ r. ⌜ Keeps r (offeredAll (bestOf best) (candidatesOf (point p) (itemOf i))) ⌝ }
 {
     let class = i.class;
     let a = i.a;
     let b = i.b;
     let c = i.c;
     match class {
-        Class::Points => offered(best, Witness::between(p, a)),
-        Class::Segments => offered(best, measures::pt_seg(p, a, b)),
-        Class::Triangles => offered(best, measures::pt_tri(p, a, b, c)),
+        Class::Points => offered(best, Squared::between(p, a), false),
+        Class::Segments => offered(best, measures::pt_seg(p, a, b), false),
+        Class::Triangles => pt_tri(best, p, a, b, c, false),
     }
 }
 
 // A segment of A with a triangle of B.
 fn segment_triangle(best: Best, s: Point, e: Point, a: Point, b: Point, c: Point) -> Best
-    ensures { λ r. ⌜ bestOf r ≡ offeredAll (bestOf best) (candidatesOf (segment s e) (triangle a b c)) ⌝ }
+    requires { ⌜ Sound best ⌝ }
+    ensures { λ r. ⌜ Keeps r (offeredAll (bestOf best) (candidatesOf (segment s e) (triangle a b c))) ⌝ }
 {
-    let ends = offered(
-        offered(best, measures::pt_tri(s, a, b, c)),
-        measures::pt_tri(e, a, b, c),
-    );
-    let edges = offered(
-        offered(ends, measures::seg_seg(s, e, a, b)),
-        measures::seg_seg(s, e, b, c),
-    );
-    offered(edges, measures::seg_seg(s, e, c, a))
+    let start = pt_tri(best, s, a, b, c, false);
+    let ends = pt_tri(start, e, a, b, c, false);
+    seg_edges(ends, s, e, a, b, c)
 }
 
 // A segment of A with an item of B.
 fn from_segment(best: Best, s: Point, e: Point, i: Shape) -> Best
-    ensures { λ r. ⌜ bestOf r ≡ offeredAll (bestOf best) (candidatesOf (segment s e) (itemOf i)) ⌝ }
+    requires { ⌜ Sound best ⌝ }
+    ensures { λ r. ⌜ Keeps r (offeredAll (bestOf best) (candidatesOf (segment s e) (itemOf i))) ⌝ }
 {
     let class = i.class;
     let a = i.a;
     let b = i.b;
     let c = i.c;
     match class {
-        Class::Points => offered(best, measures::pt_seg(a, s, e).flipped()),
-        Class::Segments => offered(best, measures::seg_seg(s, e, a, b)),
+        Class::Points => offered(best, measures::pt_seg(a, s, e), true),
+        Class::Segments => offered(best, measures::seg_seg(s, e, a, b), false),
         Class::Triangles => segment_triangle(best, s, e, a, b, c),
     }
 }
 
 // A triangle of A with a segment of B.
 fn triangle_segment(best: Best, a: Point, b: Point, c: Point, s: Point, e: Point) -> Best
-    ensures { λ r. ⌜ bestOf r ≡ offeredAll (bestOf best) (candidatesOf (triangle a b c) (segment s e)) ⌝ }
+    requires { ⌜ Sound best ⌝ }
+    ensures { λ r. ⌜ Keeps r (offeredAll (bestOf best) (candidatesOf (triangle a b c) (segment s e))) ⌝ }
 {
-    let start = offered(best, measures::pt_tri(s, a, b, c).flipped());
-    let ends = offered(start, measures::pt_tri(e, a, b, c).flipped());
-    let edges = offered(
-        offered(ends, measures::seg_seg(a, b, s, e)),
-        measures::seg_seg(b, c, s, e),
-    );
-    offered(edges, measures::seg_seg(c, a, s, e))
+    let start = pt_tri(best, s, a, b, c, true);
+    let ends = pt_tri(start, e, a, b, c, true);
+    let first = offered(ends, measures::seg_seg(a, b, s, e), false);
+    let second = offered(first, measures::seg_seg(b, c, s, e), false);
+    offered(second, measures::seg_seg(c, a, s, e), false)
 }
 
 // A triangle of A with an item of B.
 fn from_triangle(best: Best, u: Point, v: Point, w: Point, i: Shape) -> Best
-    ensures { λ r. ⌜ bestOf r ≡ offeredAll (bestOf best) (candidatesOf (triangle u v w) (itemOf i)) ⌝ }
+    requires { ⌜ Sound best ⌝ }
+    ensures { λ r. ⌜ Keeps r (offeredAll (bestOf best) (candidatesOf (triangle u v w) (itemOf i))) ⌝ }
 {
     let class = i.class;
     let a = i.a;
     let b = i.b;
     let c = i.c;
     match class {
-        Class::Points => offered(best, measures::pt_tri(a, u, v, w).flipped()),
+        Class::Points => pt_tri(best, a, u, v, w, true),
         Class::Segments => triangle_segment(best, u, v, w, a, b),
-        Class::Triangles => offered(best, measures::tri_tri(u, v, w, a, b, c)),
+        Class::Triangles => tri_tri(best, u, v, w, a, b, c),
     }
 }
 
 // The candidates of an item of A with an item of B, offered in order.
 pub fn offer(best: Best, o: Shape, i: Shape) -> Best
-    ensures { λ r. ⌜ bestOf r ≡ offeredAll (bestOf best) (candidatesOf (itemOf o) (itemOf i)) ⌝ }
+    requires { ⌜ Sound best ⌝ }
+    ensures { λ r. ⌜ Keeps r (offeredAll (bestOf best) (candidatesOf (itemOf o) (itemOf i))) ⌝ }
 {
     let class = o.class;
     let a = o.a;

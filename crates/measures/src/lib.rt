@@ -1,27 +1,62 @@
-// The pair measures: point, segment and triangle against each other.
+// The pair measures: point, segment and triangle against each other. Roots are left to the caller.
 use primitives::Point;
-use primitives::Witness;
 ghost use mathlib.Core.Path.{_≡_};
-ghost use Rattle.measures.specs.Measures.{footParameter, pointSegment, firstParameter, parametersOf, nearestParameters, longSegments, segmentSegment, normalOf, footOf, innerSide, insideTriangle, pointEdges, pointTriangle, closerOf, segmentEdges, infinitelyFar, edgePairs, firstVertices, secondVertices, triangleTriangle};
+ghost use Rattle.primitives.specs.Vectors.{dotOf};
+ghost use Rattle.primitives.specs.Witnesses.{betweenOf, flippedOf};
+ghost use Rattle.measures.specs.Measures.{footParameter, pointSegment, firstParameter, parametersOf, segmentSegment, normalOf, footOf, innerSide, insideTriangle, footInside};
+ghost use Rattle.measures.specs.Squared.{rooted, Squares};
+
+// Two points with the sum of squares of their distance: a witness whose root is not taken.
+pub struct Squared {
+    pub sum: f64,
+    pub a: Point,
+    pub b: Point,
+}
+
+impl Squared {
+    // Two points.
+    pub fn between(a: Point, b: Point) -> Squared
+        ensures { λ r. ⌜ Squares r (betweenOf a b) ⌝ }
+    {
+        Squared {
+            sum: primitives::dist_sq(a, b),
+            a,
+            b,
+        }
+    }
+
+    // The same sum, its points exchanged.
+    pub fn flipped(self) -> Squared
+        ensures { λ r. ⌜ (rooted r ≡ flippedOf (rooted self)) × (r .sum ≡ self .sum) ⌝ }
+    {
+        let a = self.a;
+        let b = self.b;
+        Squared {
+            sum: self.sum,
+            a: b,
+            b: a,
+        }
+    }
+}
 
 // Where the foot of the perpendicular from p lies on the segment, within 0..1.
 fn foot_parameter(p: Point, a: Point, b: Point) -> f64
     ensures { λ r. ⌜ r ≡ footParameter p a b ⌝ }
 {
-    let len_sq = primitives::dist_sq(b, a);
+    let ab = primitives::difference(b, a);
+    let len_sq = primitives::dot(ab, ab);
     if len_sq == 0.0 {
         return 0.0;
     }
-    let ab = primitives::difference(b, a);
     let ap = primitives::difference(p, a);
     ieee754::clamp(primitives::dot(ap, ab) / len_sq)
 }
 
 // A point and a segment.
-pub fn pt_seg(p: Point, a: Point, b: Point) -> Witness
-    ensures { λ r. ⌜ r ≡ pointSegment p a b ⌝ }
+pub fn pt_seg(p: Point, a: Point, b: Point) -> Squared
+    ensures { λ r. ⌜ Squares r (pointSegment p a b) ⌝ }
 {
-    Witness::between(p, primitives::interpolated(a, b, foot_parameter(p, a, b)))
+    Squared::between(p, primitives::interpolated(a, b, foot_parameter(p, a, b)))
 }
 
 // The parameters of two segments' nearest points.
@@ -62,51 +97,41 @@ fn solve(a: f64, b: f64, c: f64, e: f64, f: f64) -> Parameters
     Parameters { s, t }
 }
 
-// The parameters of two segments with the directions d1 and d2, r between their starts.
-fn nearest_parameters(d1: Point, d2: Point, r: Point) -> Parameters
-    ensures { λ k. ⌜ k ≡ nearestParameters d1 d2 r ⌝ }
+// The parameters of two segments with the directions d1 and d2 of squared lengths a and e, r between their starts.
+fn nearest_parameters(d1: Point, a: f64, d2: Point, e: f64, r: Point) -> Parameters
+    ensures { λ k. ⌜ k ≡ parametersOf a (dotOf d1 d2) (dotOf d1 r) e (dotOf d2 r) ⌝ }
 {
-    let a = primitives::dot(d1, d1);
     let b = primitives::dot(d1, d2);
     let c = primitives::dot(d1, r);
-    let e = primitives::dot(d2, d2);
     let f = primitives::dot(d2, r);
     solve(a, b, c, e, f)
-}
-
-// Two segments, neither of which is taken as a point.
-fn long_segments(p1: Point, q1: Point, p2: Point, q2: Point) -> Witness
-    ensures { λ r. ⌜ r ≡ longSegments p1 q1 p2 q2 ⌝ }
-{
-    let d1 = primitives::difference(q1, p1);
-    let d2 = primitives::difference(q2, p2);
-    let r = primitives::difference(p1, p2);
-    let k = nearest_parameters(d1, d2, r);
-    Witness::between(
-        primitives::interpolated(p1, q1, k.s),
-        primitives::interpolated(p2, q2, k.t),
-    )
 }
 
 // 2^-52
 const EPSILON: f64 = 2.220446049250313e-16;
 
 // Two segments; a squared length of at most 2^-52 is taken as a point.
-pub fn seg_seg(p1: Point, q1: Point, p2: Point, q2: Point) -> Witness
-    ensures { λ r. ⌜ r ≡ segmentSegment p1 q1 p2 q2 ⌝ }
+pub fn seg_seg(p1: Point, q1: Point, p2: Point, q2: Point) -> Squared
+    ensures { λ r. ⌜ Squares r (segmentSegment p1 q1 p2 q2) ⌝ }
 {
-    let a = primitives::dist_sq(q1, p1);
-    let e = primitives::dist_sq(q2, p2);
+    let d1 = primitives::difference(q1, p1);
+    let d2 = primitives::difference(q2, p2);
+    let a = primitives::dot(d1, d1);
+    let e = primitives::dot(d2, d2);
     if a <= EPSILON {
         if e <= EPSILON {
-            return Witness::between(p1, p2);
+            return Squared::between(p1, p2);
         }
         return pt_seg(p1, p2, q2);
     }
     if e <= EPSILON {
         return pt_seg(p2, p1, q1).flipped();
     }
-    long_segments(p1, q1, p2, q2)
+    let k = nearest_parameters(d1, a, d2, e, primitives::difference(p1, p2));
+    Squared::between(
+        primitives::interpolated(p1, q1, k.s),
+        primitives::interpolated(p2, q2, k.t),
+    )
 }
 
 // The normal of the triangle a b c.
@@ -138,7 +163,7 @@ fn inner_side(u: Point, v: Point, foot: Point, n: Point) -> bool
 }
 
 // Whether the foot of a perpendicular lies inside the triangle a b c with the normal n.
-pub fn inside_triangle(a: Point, b: Point, c: Point, foot: Point, n: Point) -> bool
+fn inside_triangle(a: Point, b: Point, c: Point, foot: Point, n: Point) -> bool
     ensures { λ r. ⌜ r ≡ insideTriangle a b c foot n ⌝ }
 {
     if inner_side(a, b, foot, n) {
@@ -149,109 +174,26 @@ pub fn inside_triangle(a: Point, b: Point, c: Point, foot: Point, n: Point) -> b
     false
 }
 
-// A point and the nearest of a triangle's edges, the first of equals.
-fn pt_edges(p: Point, a: Point, b: Point, c: Point) -> Witness
-    ensures { λ r. ⌜ r ≡ pointEdges p a b c ⌝ }
-{
-    pt_seg(p, a, b).min(pt_seg(p, b, c)).min(pt_seg(p, c, a))
+// The foot of a perpendicular to a triangle's plane, and whether it lies inside the triangle.
+pub struct PlaneFoot {
+    pub inside: bool,
+    pub foot: Point,
 }
 
-// A point and a filled triangle: the foot where it lies inside, else the nearest edge.
-pub fn pt_tri(p: Point, a: Point, b: Point, c: Point) -> Witness
-    ensures { λ r. ⌜ r ≡ pointTriangle p a b c ⌝ }
+// The foot of the perpendicular from p to the plane of a b c; not inside where the normal is not above 0.
+pub fn plane_foot(p: Point, a: Point, b: Point, c: Point) -> PlaneFoot
+    ensures { λ r. ⌜ (r .inside ≡ footInside p a b c (normalOf a b c)) × (r .foot ≡ footOf p a (normalOf a b c)) ⌝ }
 {
     let n = normal(a, b, c);
+    let f = foot(p, a, n);
     if primitives::dot(n, n) > 0.0 {
-        let f = foot(p, a, n);
-        if inside_triangle(a, b, c, f, n) {
-            return Witness::between(p, f);
-        }
+        return PlaneFoot {
+            inside: inside_triangle(a, b, c, f, n),
+            foot: f,
+        };
     }
-    pt_edges(p, a, b, c)
-}
-
-// The smaller of best and two segments' witness; a best of distance 0 is kept unmeasured.
-fn closer(best: Witness, p1: Point, q1: Point, p2: Point, q2: Point) -> Witness
-    ensures { λ r. ⌜ r ≡ closerOf best (segmentSegment p1 q1 p2 q2) ⌝ }
-{
-    if best.d == 0.0 {
-        return best;
+    PlaneFoot {
+        inside: false,
+        foot: f,
     }
-    best.min(seg_seg(p1, q1, p2, q2))
-}
-
-// The segment p q against the edges of a b c.
-fn seg_edges(best: Witness, p: Point, q: Point, a: Point, b: Point, c: Point) -> Witness
-    ensures { λ r. ⌜ r ≡ segmentEdges best p q a b c ⌝ }
-{
-    closer(closer(closer(best, p, q, a, b), p, q, b, c), p, q, c, a)
-}
-
-// +infinity, with the points a and d.
-fn infinitely_far(a: Point, d: Point) -> Witness
-    ensures { λ r. ⌜ r ≡ infinitelyFar a d ⌝ }
-{
-    Witness {
-        d: 1.0 / 0.0,
-        ax: a.x,
-        ay: a.y,
-        az: a.z,
-        bx: d.x,
-        by: d.y,
-        bz: d.z,
-    }
-}
-
-// Each edge of a b c against each of d e f.
-fn edge_pairs(a: Point, b: Point, c: Point, d: Point, e: Point, f: Point) -> Witness
-    ensures { λ r. ⌜ r ≡ edgePairs a b c d e f ⌝ }
-{
-    let first = seg_edges(infinitely_far(a, d), a, b, d, e, f);
-    let second = seg_edges(first, b, c, d, e, f);
-    seg_edges(second, c, a, d, e, f)
-}
-
-// Each vertex of a b c against the triangle d e f.
-fn first_vertices(
-    best: Witness,
-    a: Point,
-    b: Point,
-    c: Point,
-    d: Point,
-    e: Point,
-    f: Point,
-) -> Witness
-    ensures { λ r. ⌜ r ≡ firstVertices best a b c d e f ⌝ }
-{
-    best.min(pt_tri(a, d, e, f))
-        .min(pt_tri(b, d, e, f))
-        .min(pt_tri(c, d, e, f))
-}
-
-// Each vertex of d e f against the triangle a b c.
-fn second_vertices(
-    best: Witness,
-    a: Point,
-    b: Point,
-    c: Point,
-    d: Point,
-    e: Point,
-    f: Point,
-) -> Witness
-    ensures { λ r. ⌜ r ≡ secondVertices best a b c d e f ⌝ }
-{
-    best.min(pt_tri(d, a, b, c).flipped())
-        .min(pt_tri(e, a, b, c).flipped())
-        .min(pt_tri(f, a, b, c).flipped())
-}
-
-// Two filled triangles: edge pairs, then vertices against faces unless the distance is 0 already.
-pub fn tri_tri(a: Point, b: Point, c: Point, d: Point, e: Point, f: Point) -> Witness
-    ensures { λ r. ⌜ r ≡ triangleTriangle a b c d e f ⌝ }
-{
-    let best = edge_pairs(a, b, c, d, e, f);
-    if best.d == 0.0 {
-        return best;
-    }
-    second_vertices(first_vertices(best, a, b, c, d, e, f), a, b, c, d, e, f)
 }

@@ -1,14 +1,15 @@
 -- `closest::answered` meets its contract. Assumes nothing.
+use lib.Ieee.{ofBits}
 use Rattle.closest.specs.Closest.{answerOf}
 use Rattle.closest.proofs.answered.Statement.{statement}
 use Rattle.closest.proofs.answered.Tie as tie
 
 returns : tie.Need-returns
-unfolding answerOf
+unfolding answerOf ofBits
 returns c = rw (c .if1 .taken)
 
 returns-2 : tie.Need-returns-2
-unfolding answerOf
+unfolding answerOf ofBits
 returns-2 c = rw (c .if1 .left)
 
 pub answered-spec : {M : Type 1} → statement M

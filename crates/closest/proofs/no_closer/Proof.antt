@@ -9,7 +9,7 @@ unfolding noCloser ofBits
 returns c = rw (c .if1 .taken)
 
 returns-2 : tie.Need-returns-2
-unfolding noCloser
+unfolding noCloser ofBits
 returns-2 c = rw (c .if1 .left)
 
 pub no-closer-spec : {M : Type 1} → statement M

@@ -6,10 +6,10 @@ use Rattle.closest.proofs.stops.Tie as tie
 
 returns : tie.Need-returns
 unfolding atZero ofBits
-returns c = rw (c .before .before .if1 .taken, c .before .if2 .taken)
+returns c = rw (c .before .if1 .taken, c .if2 .taken)
 
 returns-2 : tie.Need-returns-2
-unfolding atZero
+unfolding atZero ofBits
 returns-2 c = rw (c .before .if1 .taken, c .if2 .left)
 
 returns-3 : tie.Need-returns-3

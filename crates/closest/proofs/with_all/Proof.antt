@@ -1,8 +1,5 @@
 -- `closest::with_all` meets its contract. Assumes nothing.
-use mathlib.Core.Path.{_∙_}
 use borrow.Author.Needs.{needs}
-use Rattle.items.specs.Items.{itemsOf}
-use Rattle.closest.proofs.Folds.{each-append}
 use Rattle.closest.proofs.with_all.Statement.{statement}
 use Rattle.closest.proofs.with_all.Tie as tie
 
@@ -16,31 +13,15 @@ no-closer-requires : tie.Need-no-closer-requires
 no-closer-requires c κs = search needs
 
 returns : tie.Need-returns
-returns c = rw (← c .before .before .before .box-of .ensures, ← c .before .before .min-dist-sq .ensures, ← c .before .no-closer .ensures, c .if1 .taken)
+returns c = record { same = rw (← c .before .before .before .box-of .ensures, ← c .before .before .min-dist-sq .ensures, ← c .before .no-closer .ensures, c .if1 .taken); sound = c .before .before .before .before .before .before .before .before .pre .0 }
 
-with-class-requires : tie.Need-with-class-requires
-with-class-requires c κs = (c .before .before .before .box-of .ensures, c .before .before .before .before .before .before .pre)
-
-with-class-requires-2 : tie.Need-with-class-requires-2
-with-class-requires-2 c κs = (c .before .before .before .before .box-of .ensures, c .before .before .before .before .before .before .before .pre)
-
-with-class-requires-3 : tie.Need-with-class-requires-3
-with-class-requires-3 c κs = (c .before .before .before .before .before .box-of .ensures, c .before .before .before .before .before .before .before .before .pre)
+with-classes-requires : tie.Need-with-classes-requires
+with-classes-requires c κs = let pre = c .before .before .before .before .before .before .before .before .pre in (pre .0, (c .before .before .before .box-of .ensures, (pre .1 .0, pre .1 .1)))
 
 returns-2 : tie.Need-returns-2
-unfolding itemsOf
-returns-2 c = rw (← c .before .before .before .before .before .before .box-of .ensures, ← c .before .before .before .before .before .min-dist-sq .ensures, ← c .before .before .before .before .no-closer .ensures, c .before .before .before .if1 .left, c .with-class3 .ensures, c .before .with-class2 .ensures, c .before .before .with-class .ensures)
-    (each-append _ _ _ _ ∙ each-append _ _ _ _)
+returns-2 c = rw (← c .before .before .before .before .box-of .ensures, ← c .before .before .before .min-dist-sq .ensures, ← c .before .before .no-closer .ensures, c .before .if1 .left) (c .with-classes .ensures)
 
 pub with-all-spec : {M : Type 1} → statement M
 with-all-spec =
     tie.close
-    (tie.spec
-    box-of-requires
-    min-dist-sq-requires
-    no-closer-requires
-    returns
-    with-class-requires
-    with-class-requires-2
-    with-class-requires-3
-    returns-2)
+    (tie.spec box-of-requires min-dist-sq-requires no-closer-requires returns with-classes-requires returns-2)

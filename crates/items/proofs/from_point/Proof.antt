@@ -28,20 +28,17 @@ enum-told-3 c = search needs
 pt-tri-requires : tie.Need-pt-tri-requires
 pt-tri-requires c κs = search needs
 
-offered-requires-3 : tie.Need-offered-requires-3
-offered-requires-3 c κs = search needs
-
 returns : tie.Need-returns
 unfolding candidatesOf
-returns c = rw (c .before .before .enum-told .given .1, ← c .before .between .ensures, ← c .offered .ensures)
+returns c = rw (c .before .before .enum-told .given .1, ← c .before .between .ensures .same) (c .offered .ensures)
 
 returns-2 : tie.Need-returns-2
 unfolding candidatesOf
-returns-2 c = rw (c .before .before .enum-told2 .given .1, ← c .before .pt-seg .ensures, ← c .offered2 .ensures)
+returns-2 c = rw (c .before .before .enum-told2 .given .1, ← c .before .pt-seg .ensures .same) (c .offered2 .ensures)
 
 returns-3 : tie.Need-returns-3
 unfolding candidatesOf
-returns-3 c = rw (c .before .before .enum-told3 .given .1, ← c .before .pt-tri .ensures, ← c .offered3 .ensures)
+returns-3 c = rw (c .before .enum-told3 .given .1) (c .pt-tri .ensures)
 
 pub from-point-spec : {M : Type 1} → statement M
 from-point-spec =
@@ -55,7 +52,6 @@ from-point-spec =
     offered-requires-2
     enum-told-3
     pt-tri-requires
-    offered-requires-3
     returns
     returns-2
     returns-3)

@@ -10,9 +10,6 @@ enum-told c = search needs
 pt-seg-requires : tie.Need-pt-seg-requires
 pt-seg-requires c κs = search needs
 
-flipped-requires : tie.Need-flipped-requires
-flipped-requires c κs = search needs
-
 offered-requires : tie.Need-offered-requires
 offered-requires c κs = search needs
 
@@ -33,11 +30,11 @@ segment-triangle-requires c κs = search needs
 
 returns : tie.Need-returns
 unfolding candidatesOf
-returns c = rw (c .before .before .before .enum-told .given .1, ← c .before .before .pt-seg .ensures, ← c .before .flipped .ensures, ← c .offered .ensures)
+returns c = rw (c .before .before .enum-told .given .1, ← c .before .pt-seg .ensures .same) (c .offered .ensures)
 
 returns-2 : tie.Need-returns-2
 unfolding candidatesOf
-returns-2 c = rw (c .before .before .enum-told2 .given .1, ← c .before .seg-seg .ensures, ← c .offered2 .ensures)
+returns-2 c = rw (c .before .before .enum-told2 .given .1, ← c .before .seg-seg .ensures .same) (c .offered2 .ensures)
 
 returns-3 : tie.Need-returns-3
 unfolding candidatesOf
@@ -49,7 +46,6 @@ from-segment-spec =
     (tie.spec
     enum-told
     pt-seg-requires
-    flipped-requires
     offered-requires
     enum-told-2
     seg-seg-requires

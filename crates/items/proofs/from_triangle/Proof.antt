@@ -10,12 +10,6 @@ enum-told c = search needs
 pt-tri-requires : tie.Need-pt-tri-requires
 pt-tri-requires c κs = search needs
 
-flipped-requires : tie.Need-flipped-requires
-flipped-requires c κs = search needs
-
-offered-requires : tie.Need-offered-requires
-offered-requires c κs = search needs
-
 enum-told-2 : tie.Need-enum-told-2
 enum-told-2 c = search needs
 
@@ -28,12 +22,9 @@ enum-told-3 c = search needs
 tri-tri-requires : tie.Need-tri-tri-requires
 tri-tri-requires c κs = search needs
 
-offered-requires-2 : tie.Need-offered-requires-2
-offered-requires-2 c κs = search needs
-
 returns : tie.Need-returns
 unfolding candidatesOf
-returns c = rw (c .before .before .before .enum-told .given .1, ← c .before .before .pt-tri .ensures, ← c .before .flipped .ensures, ← c .offered .ensures)
+returns c = rw (c .before .enum-told .given .1) (c .pt-tri .ensures)
 
 returns-2 : tie.Need-returns-2
 unfolding candidatesOf
@@ -41,7 +32,7 @@ returns-2 c = rw (c .before .enum-told2 .given .1) (c .triangle-segment .ensures
 
 returns-3 : tie.Need-returns-3
 unfolding candidatesOf
-returns-3 c = rw (c .before .before .enum-told3 .given .1, ← c .before .tri-tri .ensures, ← c .offered2 .ensures)
+returns-3 c = rw (c .before .enum-told3 .given .1) (c .tri-tri .ensures)
 
 pub from-triangle-spec : {M : Type 1} → statement M
 from-triangle-spec =
@@ -49,13 +40,10 @@ from-triangle-spec =
     (tie.spec
     enum-told
     pt-tri-requires
-    flipped-requires
-    offered-requires
     enum-told-2
     triangle-segment-requires
     enum-told-3
     tri-tri-requires
-    offered-requires-2
     returns
     returns-2
     returns-3)

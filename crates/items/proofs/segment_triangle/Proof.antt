@@ -7,49 +7,16 @@ use Rattle.items.proofs.segment_triangle.Tie as tie
 pt-tri-requires : tie.Need-pt-tri-requires
 pt-tri-requires c κs = search needs
 
-offered-requires : tie.Need-offered-requires
-offered-requires c κs = search needs
-
 pt-tri-requires-2 : tie.Need-pt-tri-requires-2
 pt-tri-requires-2 c κs = search needs
 
-offered-requires-2 : tie.Need-offered-requires-2
-offered-requires-2 c κs = search needs
-
-seg-seg-requires : tie.Need-seg-seg-requires
-seg-seg-requires c κs = search needs
-
-offered-requires-3 : tie.Need-offered-requires-3
-offered-requires-3 c κs = search needs
-
-seg-seg-requires-2 : tie.Need-seg-seg-requires-2
-seg-seg-requires-2 c κs = search needs
-
-offered-requires-4 : tie.Need-offered-requires-4
-offered-requires-4 c κs = search needs
-
-seg-seg-requires-3 : tie.Need-seg-seg-requires-3
-seg-seg-requires-3 c κs = search needs
-
-offered-requires-5 : tie.Need-offered-requires-5
-offered-requires-5 c κs = search needs
+seg-edges-requires : tie.Need-seg-edges-requires
+seg-edges-requires c κs = search needs
 
 returns : tie.Need-returns
 unfolding candidatesOf
-returns c = rw (← c .before .before .before .before .before .before .before .before .before .pt-tri .ensures, ← c .before .before .before .before .before .before .before .before .offered .ensures, ← c .before .before .before .before .before .before .before .pt-tri2 .ensures, ← c .before .before .before .before .before .before .offered2 .ensures, ← c .before .before .before .before .before .seg-seg .ensures, ← c .before .before .before .before .offered3 .ensures, ← c .before .before .before .seg-seg2 .ensures, ← c .before .before .offered4 .ensures, ← c .before .seg-seg3 .ensures, ← c .offered5 .ensures)
+returns c = rw (← c .before .before .pt-tri .ensures .same, ← c .before .pt-tri2 .ensures .same) (c .seg-edges .ensures)
 
 pub segment-triangle-spec : {M : Type 1} → statement M
 segment-triangle-spec =
-    tie.close
-    (tie.spec
-    pt-tri-requires
-    offered-requires
-    pt-tri-requires-2
-    offered-requires-2
-    seg-seg-requires
-    offered-requires-3
-    seg-seg-requires-2
-    offered-requires-4
-    seg-seg-requires-3
-    offered-requires-5
-    returns)
+    tie.close (tie.spec pt-tri-requires pt-tri-requires-2 seg-edges-requires returns)

@@ -15,7 +15,7 @@ between-requires c κs = search needs
 
 returns : tie.Need-returns
 unfolding pointSegment
-returns c = cc
+returns c = rw (← c .before .before .foot-parameter .ensures, ← c .before .interpolated .ensures) (c .between .ensures)
 
 pub pt-seg-spec : {M : Type 1} → statement M
 pt-seg-spec =

@@ -1,0 +1,95 @@
+-- The items of a class cut into blocks, each with its cursor and a box that covers it. Serves inner contracts. Definitions only.
+use Prim.Native.Nat.{ℕ, _+_, _*_, _<_, _≤_}
+use mathlib.Core.Path.{_≡_}
+use mathlib.Core.List.{List, [], _∷_}
+use lib.ListN.{length, getD, take, drop}
+use lib.Ieee.{Float, nan}
+use Rattle.parts.specs.Stored.{storedRuns}
+use Rattle.primitives.specs.declared.Aabb.{Aabb}
+use Rattle.items.specs.Inner.{classItems}
+use Rattle.items.specs.declared.Class.{Class}
+use Rattle.items.specs.declared.Class.the-variants.{Points, Segments, Triangles}
+use Rattle.closest.specs.Cover.{coverOfItems}
+use Rattle.closest.specs.Spans.{itemTotal, Reaches}
+use Rattle.closest.specs.declared.Cursor.{Cursor}
+use Rattle.closest.specs.declared.Part.{Part}
+use Rattle.closest.specs.declared.Plan.{Plan}
+
+-- ---- boxes and cursors in a row
+
+abbrev pub floatsPerBox : ℕ
+floatsPerBox = 6
+
+abbrev pub numbersPerCursor : ℕ
+numbersPerCursor = 3
+
+-- the floats of a box
+abbrev pub boxFloats : Aabb → List Float
+boxFloats b = b .«lo_x» ∷ b .«lo_y» ∷ b .«lo_z» ∷ b .«hi_x» ∷ b .«hi_y» ∷ b .«hi_z» ∷ []
+
+-- the numbers of a cursor
+abbrev pub cursorNumbers : Cursor → List ℕ
+cursorNumbers cursor = cursor .r ∷ cursor .at ∷ cursor .j ∷ []
+
+-- the k-th box
+unfoldable pub boxAt : List Float → ℕ → Aabb
+boxAt boxes k =
+    record {
+      «lo_x» = getD boxes (floatsPerBox * k) nan;
+      «lo_y» = getD boxes (floatsPerBox * k + 1) nan;
+      «lo_z» = getD boxes (floatsPerBox * k + 2) nan;
+      «hi_x» = getD boxes (floatsPerBox * k + 3) nan;
+      «hi_y» = getD boxes (floatsPerBox * k + 4) nan;
+      «hi_z» = getD boxes (floatsPerBox * k + 5) nan;
+    }
+
+-- the k-th cursor
+unfoldable pub cursorAt : List ℕ → ℕ → Cursor
+cursorAt starts k =
+    record {
+      r = getD starts (numbersPerCursor * k) 0;
+      at = getD starts (numbersPerCursor * k + 1) 0;
+      j = getD starts (numbersPerCursor * k + 2) 0;
+    }
+
+-- ---- blocks
+
+-- block k, of size items: its cursor stands at its first item, and its box covers its items
+pub record Block (k size : ℕ) (class : Class) (table : List ℕ) (floats : List Float) (boxes : List Float) (starts : List ℕ) : Type 0 where
+  pub start : Reaches (cursorAt starts k) class table floats (k * size)
+  pub cover : boxAt boxes k ≡ coverOfItems (take size (drop (k * size) (classItems class (storedRuns table floats))))
+
+-- the first n blocks
+abbrev pub Blocks : ℕ → ℕ → Class → List ℕ → List Float → List Float → List ℕ → Type 0
+Blocks n size class table floats boxes starts = (k : ℕ) → k < n → Block k size class table floats boxes starts
+
+-- a class is cut into so many blocks of size items
+pub record Cut (used size : ℕ) (class : Class) (table : List ℕ) (floats : List Float) (boxes : List Float) (starts : List ℕ) : Type 0 where
+  pub all : itemTotal class table ≤ used * size
+  pub boxes-room : floatsPerBox * used ≤ length boxes
+  pub starts-room : numbersPerCursor * used ≤ length starts
+  pub blocks : Blocks used size class table floats boxes starts
+
+-- ---- what is known of a side
+
+-- the part is of a class, with its total; if it has blocks, they are the class's
+pub record Describes (part : Part) (class : Class) (table : List ℕ) (floats : List Float) (boxes : List Float) (starts : List ℕ) : Type 0 where
+  pub class-is : part .class ≡ class
+  pub total-is : part .total ≡ itemTotal class table
+  pub cut : 0 < part .used → Cut (part .used) (part .size) class table floats boxes starts
+
+-- the parts are of the classes in order
+pub record Plans (plan : Plan) (table : List ℕ) (floats : List Float) (boxes : List Float) (starts : List ℕ) : Type 0 where
+  pub points : Describes (plan .points) Points table floats boxes starts
+  pub segments : Describes (plan .segments) Segments table floats boxes starts
+  pub triangles : Describes (plan .triangles) Triangles table floats boxes starts
+
+-- the same with no class cut, whatever the boxes and cursors are
+abbrev pub Uncut : Plan → List ℕ → List Float → Type 0
+Uncut plan table floats = (boxes : List Float) (starts : List ℕ) → Plans plan table floats boxes starts
+
+-- the plan with another part for the part's class
+abbrev pub planWith : Class → Plan → Part → Plan
+planWith Points plan part = record { points = part; segments = plan .segments; triangles = plan .triangles }
+planWith Segments plan part = record { points = plan .points; segments = part; triangles = plan .triangles }
+planWith Triangles plan part = record { points = plan .points; segments = plan .segments; triangles = part }
