@@ -59,11 +59,13 @@ fn round(w: &Workload, mut call: impl FnMut(Op, &Pair)) -> u64 {
     now() - start
 }
 
-/// Nanoseconds of a round, at best.
+/// Nanoseconds of a round.
 #[derive(Debug, Clone, Copy)]
 pub struct Times {
     pub original: f64,
     pub ours: f64,
+    /// How much longer than the best round the median took, as a share of the best: that of the less steady side.
+    pub spread: f64,
 }
 
 impl Times {
@@ -79,9 +81,8 @@ const LEAST: u64 = 30_000_000;
 pub struct Run<'a> {
     pub workload: &'a Workload,
     library: Library,
-    best: [u64; 2],
-    count: usize,
-    spent: u64,
+    /// The rounds' times: the original's, ours.
+    rounds: Vec<[u64; 2]>,
 }
 
 impl<'a> Run<'a> {
@@ -89,16 +90,17 @@ impl<'a> Run<'a> {
     pub fn new(w: &'a Workload) -> Result<Run<'a>, String> {
         let mut library = Library::new(&w.pairs);
         let (mut theirs, mut ours) = (Vec::new(), Vec::new());
-        let best = [
+        let first = [
             round(w, |op, pair| theirs.push(original_side::answer(op, pair))),
             round(w, |op, pair| ours.push(library.answer(op, pair))),
         ];
         compare(w, &theirs, &ours)?;
-        Ok(Run { workload: w, library, best, count: 1, spent: best[0].min(best[1]) })
+        Ok(Run { workload: w, library, rounds: vec![first] })
     }
 
     pub fn done(&self, rounds: usize) -> bool {
-        enough(self.workload, rounds, self.count, self.spent)
+        let spent = self.rounds.iter().map(|[original, ours]| original.min(ours)).sum();
+        enough(self.workload, rounds, self.rounds.len(), spent)
     }
 
     /// One more round: the original, then ours.
@@ -106,14 +108,18 @@ impl<'a> Run<'a> {
         let (w, library) = (self.workload, &mut self.library);
         let original = round(w, |op, pair| drop(black_box(original_side::answer(op, pair))));
         let ours = round(w, |op, pair| library.call(op, pair));
-        self.best = [self.best[0].min(original), self.best[1].min(ours)];
-        self.count += 1;
-        self.spent += original.min(ours);
+        self.rounds.push([original, ours]);
     }
 
+    /// The best round of each side.
     pub fn times(&self) -> Times {
-        let [original, ours] = self.best.map(|time| time as f64);
-        Times { original, ours }
+        let sides = [0, 1].map(|side| {
+            let mut times: Vec<u64> = self.rounds.iter().map(|round| round[side]).collect();
+            times.sort_unstable();
+            [times[0], times[times.len() / 2]].map(|time| time as f64)
+        });
+        let [spread, other] = sides.map(|[best, median]| median / best - 1.0);
+        Times { original: sides[0][0], ours: sides[1][0], spread: spread.max(other) }
     }
 }
 

@@ -111,4 +111,11 @@ fn summary(measured: &[(&Workload, Times)], equal: bool) {
     let met = aimed.iter().filter(|met| **met).count();
     let answers = if equal { "all answers equal" } else { "ANSWERS DIFFER" };
     println!("\n{} workloads, {met} of {} targets met, {answers}", measured.len(), aimed.len());
+    if let Some((w, times)) = measured.iter().max_by(|(_, one), (_, other)| one.spread.total_cmp(&other.spread)) {
+        println!(
+            "Least steady: {}, whose median round took {:.0} % longer than the best",
+            w.name,
+            100.0 * times.spread
+        );
+    }
 }
