@@ -12,14 +12,14 @@ use lib.Seq.{sets}
 use lib.Ieee.{Float}
 use borrow.Author.Tests.{ltb-false}
 use Rattle.fields.specs.Fields.{u32At}
-use Rattle.coords.specs.Walk.{Coordinate, ok, refused, stride, coordinatesFrom}
+use Rattle.coords.specs.Walk.{Coordinate, ok, refused, stride, coordinateAt, coordinatesFrom}
 use Rattle.coords.specs.Parts.{Run, run, nonEmptyRun, coordinateCount}
 use Rattle.coords.specs.Inner.{ParsedRuns, coordinatesRuns, lineRuns}
 use Rattle.coords.proofs.Runs.{coordinates-runs, line-runs}
 use Rattle.coords.specs.declared.WkbHeader.{WkbHeader}
 use Rattle.coords.proofs.Laws.{length-coordinates}
 use Rattle.workspace.specs.declared.Progress.{Progress}
-use Rattle.workspace.specs.Workspace.{floatsPerCoordinate, numbersPerRun, runNumbers, coordinatesFloats, floatsOf, tableOf}
+use Rattle.workspace.specs.Workspace.{floatsPerCoordinate, numbersPerRun, runNumbers, coordinateFloats, coordinatesFloats, floatsOf, tableOf}
 use Rattle.workspace.specs.Inner.{floatsAfter, tableAfter, progressAfter, Ready, Filled}
 
 -- a test that refuses by 9 did not
@@ -61,6 +61,19 @@ unfolding progressAfter floatsAfter tableAfter coordinateCount floatsOf tableOf 
 filled-one h s n at p fs ts f r =
     rw (run-one h s n at p (length fs) (length ts) f r)
     (record { progress = simp (add-zero, length-coordinates); ordinates = simp append-nil; rows = simp (length-coordinates, add-one) })
+
+-- one coordinate
+one-some : _≡_ {A = ℕ} 1 0 → ⊥
+one-some e = omega (arith, e)
+
+pub point-room : (h : WkbHeader) (s : List ℕ) (at : ℕ) (p : Progress) (lf lt : ℕ) → Ready (coordinatesRuns h s 1 at) p lf lt → (at + stride h ≤ length s) × ((floatsPerCoordinate * (p .coords + 1) ≤ lf) × (numbersPerRun * (p .runs + 1) ≤ lt))
+point-room h s at p lf lt r = (omega (arith, run-inside h s 1 at p lf lt r), run-room h s 1 at p lf lt one-some r)
+
+pub filled-point : (h : WkbHeader) (s : List ℕ) (at : ℕ) (p : Progress) (fs : List Float) (ts : List ℕ) → Ready (coordinatesRuns h s 1 at) p (length fs) (length ts) → Filled (coordinatesRuns h s 1 at) p fs ts (sets fs (floatsPerCoordinate * p .coords) (coordinateFloats (coordinateAt h s at))) (set (set ts (numbersPerRun * p .runs) (h .kind)) (numbersPerRun * p .runs + 1) 1) (record { coords = p .coords + 1; runs = p .runs + 1; next = at + stride h })
+unfolding coordinatesFrom coordinatesFloats
+filled-point h s at p fs ts r =
+    let e : 1 * stride h ≡ stride h = omega arith in
+    rw (append-nil (coordinateFloats (coordinateAt h s at)), e) at (filled-one h s 1 at p fs ts one-some r)
 
 pub line-inside : (h : WkbHeader) (s : List ℕ) (at : ℕ) (p : Progress) (lf lt : ℕ) → Ready (lineRuns h s at) p lf lt → at + 4 ≤ length s
 line-inside h s at p lf lt r =

@@ -104,6 +104,32 @@ fn fill_run(
     }
 }
 
+// A point: a run of one coordinate.
+fn fill_point(
+    s: &[u8],
+    h: WkbHeader,
+    p: Progress,
+    floats: &mut [f64],
+    table: &mut [u32],
+) -> Progress
+    requires { ⌜ Ready (coordinatesRuns h (now s) 1 (p .next)) p (length (now floats)) (length (now table)) ⌝ }
+    ensures { λ r. ⌜ Filled (coordinatesRuns h (now (s .entry)) 1 (p .next)) p (now (floats .entry)) (now (table .entry)) (now (floats .exit)) (now (table .exit)) r ⌝ }
+{
+    let at = p.next;
+    let coords = p.coords;
+    let runs = p.runs;
+    let stride = coords::stride_of(h.z, h.m);
+    put_coordinate(s, h, at, floats, coords);
+    let k = NUMBERS_PER_RUN * runs;
+    table[k] = h.kind;
+    table[k + 1] = 1;
+    Progress {
+        coords: coords + 1,
+        runs: runs + 1,
+        next: at + stride,
+    }
+}
+
 // A count, and as many coordinates.
 fn fill_line(s: &[u8], h: WkbHeader, p: Progress, floats: &mut [f64], table: &mut [u32]) -> Progress
     requires { ⌜ Ready (lineRuns h (now s) (p .next)) p (length (now floats)) (length (now table)) ⌝ }
@@ -195,7 +221,7 @@ fn fill_geometry(
                 next: h.body,
             };
             match kind {
-                1 => fill_run(s, h, 1, q, floats, table),
+                1 => fill_point(s, h, q, floats, table),
                 2 => fill_line(s, h, q, floats, table),
                 3 | 17 => fill_rings(s, h, q, floats, table),
                 4..=7 | 15 | 16 => fill_members(s, h.little, q, levels - 1, floats, table),

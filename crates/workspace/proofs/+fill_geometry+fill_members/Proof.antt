@@ -24,7 +24,7 @@ use Rattle.workspace.proofs.+fill_geometry+fill_members.Lts-fill_member
 use Rattle.fields.proofs.u32_at.Reads as u32-at-reads
 use Rattle.workspace.proofs.fill_line.Reads as fill-line-reads
 use Rattle.workspace.proofs.fill_rings.Reads as fill-rings-reads
-use Rattle.workspace.proofs.fill_run.Reads as fill-run-reads
+use Rattle.workspace.proofs.fill_point.Reads as fill-point-reads
 use Rattle.coords.proofs.read_header.Reads as read-header-reads
 use Rattle.workspace.proofs.+fill_geometry+fill_members.{statement}
 use Rattle.workspace.proofs.+fill_geometry+fill_members.Tie.{close}
@@ -62,8 +62,8 @@ fill-members-below t =
 fill-geometry-returns : (t : ℕ) → fill-geometry-lts.Need-returns (
   read-header-reads.Asked,
   read-header-reads.Learnt,
-  fill-run-reads.Asked,
-  fill-run-reads.Learnt,
+  fill-point-reads.Asked,
+  fill-point-reads.Learnt,
   fill-line-reads.Asked,
   fill-line-reads.Learnt,
   fill-rings-reads.Asked,
@@ -77,8 +77,8 @@ fill-geometry-returns t c = absurd (rw (c .if1 .taken) at ((c .before .before .b
 fill-geometry-read-header-requires : (t : ℕ) → fill-geometry-lts.Need-read-header-requires (
   read-header-reads.Asked,
   read-header-reads.Learnt,
-  fill-run-reads.Asked,
-  fill-run-reads.Learnt,
+  fill-point-reads.Asked,
+  fill-point-reads.Learnt,
   fill-line-reads.Asked,
   fill-line-reads.Learnt,
   fill-rings-reads.Asked,
@@ -91,8 +91,8 @@ fill-geometry-read-header-requires t c κs = search needs
 fill-geometry-enum-told : (t : ℕ) → fill-geometry-lts.Need-enum-told (
   read-header-reads.Asked,
   read-header-reads.Learnt,
-  fill-run-reads.Asked,
-  fill-run-reads.Learnt,
+  fill-point-reads.Asked,
+  fill-point-reads.Learnt,
   fill-line-reads.Asked,
   fill-line-reads.Learnt,
   fill-rings-reads.Asked,
@@ -105,8 +105,8 @@ fill-geometry-enum-told t c = search needs
 fill-geometry-enum-known-h : (t : ℕ) → fill-geometry-lts.Need-enum-known-h (
   read-header-reads.Asked,
   read-header-reads.Learnt,
-  fill-run-reads.Asked,
-  fill-run-reads.Learnt,
+  fill-point-reads.Asked,
+  fill-point-reads.Learnt,
   fill-line-reads.Asked,
   fill-line-reads.Learnt,
   fill-rings-reads.Asked,
@@ -116,11 +116,11 @@ fill-geometry-enum-known-h : (t : ℕ) → fill-geometry-lts.Need-enum-known-h (
 ) (fill-geometry-at t) fill-geometry.Post
 fill-geometry-enum-known-h t c = search needs
 
-fill-geometry-fill-run-requires : (t : ℕ) → fill-geometry-lts.Need-fill-run-requires (
+fill-geometry-fill-point-requires : (t : ℕ) → fill-geometry-lts.Need-fill-point-requires (
   read-header-reads.Asked,
   read-header-reads.Learnt,
-  fill-run-reads.Asked,
-  fill-run-reads.Learnt,
+  fill-point-reads.Asked,
+  fill-point-reads.Learnt,
   fill-line-reads.Asked,
   fill-line-reads.Learnt,
   fill-rings-reads.Asked,
@@ -129,13 +129,13 @@ fill-geometry-fill-run-requires : (t : ℕ) → fill-geometry-lts.Need-fill-run-
   fill-members.Post,
 ) (fill-geometry-at t) fill-geometry.Post
 unfolding contentRunsAt
-fill-geometry-fill-run-requires t c κs = ready-moved _ (c .before .before .before .before .before .before .before .before .before .before .before .args .p) _ _ _ (rw (geometry-is (c .before .before .before .before .before .before .before .before .before .before .before .args .levels) (c .before .before .before .before .before .before .before .before .before .before .before .args .s .now) (c .before .before .before .before .before .before .before .before .before .before .before .args .p .next) ((c .before .before .before .before .h .given) .0 .0) pointClass _ (c .before .before .before .before .before .before .before .if1 .left) (c .before .before .before .before .before .before .read-header .ensures) ((c .before .before .before .before .h .given) .1) (class-point _ (c .before .before .match2 .keys1))) at ((c .before .before .before .before .before .before .before .before .before .before .before .pre) .1))
+fill-geometry-fill-point-requires t c κs = ready-moved _ (c .before .before .before .before .before .before .before .before .before .before .before .args .p) _ _ _ (rw (geometry-is (c .before .before .before .before .before .before .before .before .before .before .before .args .levels) (c .before .before .before .before .before .before .before .before .before .before .before .args .s .now) (c .before .before .before .before .before .before .before .before .before .before .before .args .p .next) ((c .before .before .before .before .h .given) .0 .0) pointClass _ (c .before .before .before .before .before .before .before .if1 .left) (c .before .before .before .before .before .before .read-header .ensures) ((c .before .before .before .before .h .given) .1) (class-point _ (c .before .before .match2 .keys1))) at ((c .before .before .before .before .before .before .before .before .before .before .before .pre) .1))
 
 fill-geometry-fill-line-requires : (t : ℕ) → fill-geometry-lts.Need-fill-line-requires (
   read-header-reads.Asked,
   read-header-reads.Learnt,
-  fill-run-reads.Asked,
-  fill-run-reads.Learnt,
+  fill-point-reads.Asked,
+  fill-point-reads.Learnt,
   fill-line-reads.Asked,
   fill-line-reads.Learnt,
   fill-rings-reads.Asked,
@@ -149,8 +149,8 @@ fill-geometry-fill-line-requires t c κs = ready-moved _ (c .before .before .bef
 fill-geometry-fill-rings-requires : (t : ℕ) → fill-geometry-lts.Need-fill-rings-requires (
   read-header-reads.Asked,
   read-header-reads.Learnt,
-  fill-run-reads.Asked,
-  fill-run-reads.Learnt,
+  fill-point-reads.Asked,
+  fill-point-reads.Learnt,
   fill-line-reads.Asked,
   fill-line-reads.Learnt,
   fill-rings-reads.Asked,
@@ -164,8 +164,8 @@ fill-geometry-fill-rings-requires t c κs = ready-moved _ (c .before .before .be
 fill-geometry-sub-fill-members : (t : ℕ) → fill-geometry-lts.Need-sub-fill-members (
   read-header-reads.Asked,
   read-header-reads.Learnt,
-  fill-run-reads.Asked,
-  fill-run-reads.Learnt,
+  fill-point-reads.Asked,
+  fill-point-reads.Learnt,
   fill-line-reads.Asked,
   fill-line-reads.Learnt,
   fill-rings-reads.Asked,
@@ -178,8 +178,8 @@ fill-geometry-sub-fill-members t c = omega (arith, (c .before .before .before .b
 fill-geometry-fill-members-requires : (t : ℕ) → fill-geometry-lts.Need-fill-members-requires (
   read-header-reads.Asked,
   read-header-reads.Learnt,
-  fill-run-reads.Asked,
-  fill-run-reads.Learnt,
+  fill-point-reads.Asked,
+  fill-point-reads.Learnt,
   fill-line-reads.Asked,
   fill-line-reads.Learnt,
   fill-rings-reads.Asked,
@@ -193,8 +193,8 @@ fill-geometry-fill-members-requires t c κs = (omega (arith, (c .before .before 
 fill-geometry-returns-2 : (t : ℕ) → fill-geometry-lts.Need-returns-2 (
   read-header-reads.Asked,
   read-header-reads.Learnt,
-  fill-run-reads.Asked,
-  fill-run-reads.Learnt,
+  fill-point-reads.Asked,
+  fill-point-reads.Learnt,
   fill-line-reads.Asked,
   fill-line-reads.Learnt,
   fill-rings-reads.Asked,
@@ -208,8 +208,8 @@ fill-geometry-returns-2 t c = absurd (rw (geometry-refused (c .before .before .b
 fill-geometry-same-length : (t : ℕ) → fill-geometry-lts.Need-same-length (
   read-header-reads.Asked,
   read-header-reads.Learnt,
-  fill-run-reads.Asked,
-  fill-run-reads.Learnt,
+  fill-point-reads.Asked,
+  fill-point-reads.Learnt,
   fill-line-reads.Asked,
   fill-line-reads.Learnt,
   fill-rings-reads.Asked,
@@ -217,13 +217,13 @@ fill-geometry-same-length : (t : ℕ) → fill-geometry-lts.Need-same-length (
   fill-members-below t,
   fill-members.Post,
 ) (fill-geometry-at t) fill-geometry.Post
-fill-geometry-same-length t c = (c .before .before .before .before .fill-run .kept) .1 .1 .1 .1 .0
+fill-geometry-same-length t c = (c .before .before .before .before .fill-point .kept) .1 .1 .1 .0
 
 fill-geometry-same-length-2 : (t : ℕ) → fill-geometry-lts.Need-same-length-2 (
   read-header-reads.Asked,
   read-header-reads.Learnt,
-  fill-run-reads.Asked,
-  fill-run-reads.Learnt,
+  fill-point-reads.Asked,
+  fill-point-reads.Learnt,
   fill-line-reads.Asked,
   fill-line-reads.Learnt,
   fill-rings-reads.Asked,
@@ -231,13 +231,13 @@ fill-geometry-same-length-2 : (t : ℕ) → fill-geometry-lts.Need-same-length-2
   fill-members-below t,
   fill-members.Post,
 ) (fill-geometry-at t) fill-geometry.Post
-fill-geometry-same-length-2 t c = (c .before .before .before .before .fill-run .kept) .1 .1 .1 .1 .1 .0
+fill-geometry-same-length-2 t c = (c .before .before .before .before .fill-point .kept) .1 .1 .1 .1 .0
 
 fill-geometry-returns-3 : (t : ℕ) → fill-geometry-lts.Need-returns-3 (
   read-header-reads.Asked,
   read-header-reads.Learnt,
-  fill-run-reads.Asked,
-  fill-run-reads.Learnt,
+  fill-point-reads.Asked,
+  fill-point-reads.Learnt,
   fill-line-reads.Asked,
   fill-line-reads.Learnt,
   fill-rings-reads.Asked,
@@ -246,13 +246,13 @@ fill-geometry-returns-3 : (t : ℕ) → fill-geometry-lts.Need-returns-3 (
   fill-members.Post,
 ) (fill-geometry-at t) fill-geometry.Post
 unfolding contentRunsAt
-fill-geometry-returns-3 t c = rw (geometry-is (c .before .before .before .before .before .before .before .before .before .before .before .before .before .before .before .before .args .levels) (c .before .before .before .before .before .before .before .before .before .before .before .before .before .before .before .before .args .s .now) (c .before .before .before .before .before .before .before .before .before .before .before .before .before .before .before .before .args .p .next) ((c .before .before .before .before .before .before .before .before .before .h .given) .0 .0) pointClass _ (c .before .before .before .before .before .before .before .before .before .before .before .before .if1 .left) (c .before .before .before .before .before .before .before .before .before .before .before .read-header .ensures) ((c .before .before .before .before .before .before .before .before .before .h .given) .1) (class-point _ (c .before .before .before .before .before .before .before .match2 .keys1))) (filled-moved _ (c .before .before .before .before .before .before .before .before .before .before .before .before .before .before .before .before .args .p) _ _ _ _ _ _ (c .before .before .before .before .fill-run .ensures))
+fill-geometry-returns-3 t c = rw (geometry-is (c .before .before .before .before .before .before .before .before .before .before .before .before .before .before .before .before .args .levels) (c .before .before .before .before .before .before .before .before .before .before .before .before .before .before .before .before .args .s .now) (c .before .before .before .before .before .before .before .before .before .before .before .before .before .before .before .before .args .p .next) ((c .before .before .before .before .before .before .before .before .before .h .given) .0 .0) pointClass _ (c .before .before .before .before .before .before .before .before .before .before .before .before .if1 .left) (c .before .before .before .before .before .before .before .before .before .before .before .read-header .ensures) ((c .before .before .before .before .before .before .before .before .before .h .given) .1) (class-point _ (c .before .before .before .before .before .before .before .match2 .keys1))) (filled-moved _ (c .before .before .before .before .before .before .before .before .before .before .before .before .before .before .before .before .args .p) _ _ _ _ _ _ (c .before .before .before .before .fill-point .ensures))
 
 fill-geometry-same-length-3 : (t : ℕ) → fill-geometry-lts.Need-same-length-3 (
   read-header-reads.Asked,
   read-header-reads.Learnt,
-  fill-run-reads.Asked,
-  fill-run-reads.Learnt,
+  fill-point-reads.Asked,
+  fill-point-reads.Learnt,
   fill-line-reads.Asked,
   fill-line-reads.Learnt,
   fill-rings-reads.Asked,
@@ -265,8 +265,8 @@ fill-geometry-same-length-3 t c = (c .before .before .before .before .fill-line 
 fill-geometry-same-length-4 : (t : ℕ) → fill-geometry-lts.Need-same-length-4 (
   read-header-reads.Asked,
   read-header-reads.Learnt,
-  fill-run-reads.Asked,
-  fill-run-reads.Learnt,
+  fill-point-reads.Asked,
+  fill-point-reads.Learnt,
   fill-line-reads.Asked,
   fill-line-reads.Learnt,
   fill-rings-reads.Asked,
@@ -279,8 +279,8 @@ fill-geometry-same-length-4 t c = (c .before .before .before .before .fill-line 
 fill-geometry-returns-4 : (t : ℕ) → fill-geometry-lts.Need-returns-4 (
   read-header-reads.Asked,
   read-header-reads.Learnt,
-  fill-run-reads.Asked,
-  fill-run-reads.Learnt,
+  fill-point-reads.Asked,
+  fill-point-reads.Learnt,
   fill-line-reads.Asked,
   fill-line-reads.Learnt,
   fill-rings-reads.Asked,
@@ -294,8 +294,8 @@ fill-geometry-returns-4 t c = rw (geometry-is (c .before .before .before .before
 fill-geometry-same-length-5 : (t : ℕ) → fill-geometry-lts.Need-same-length-5 (
   read-header-reads.Asked,
   read-header-reads.Learnt,
-  fill-run-reads.Asked,
-  fill-run-reads.Learnt,
+  fill-point-reads.Asked,
+  fill-point-reads.Learnt,
   fill-line-reads.Asked,
   fill-line-reads.Learnt,
   fill-rings-reads.Asked,
@@ -308,8 +308,8 @@ fill-geometry-same-length-5 t c = (c .before .before .before .before .fill-rings
 fill-geometry-same-length-6 : (t : ℕ) → fill-geometry-lts.Need-same-length-6 (
   read-header-reads.Asked,
   read-header-reads.Learnt,
-  fill-run-reads.Asked,
-  fill-run-reads.Learnt,
+  fill-point-reads.Asked,
+  fill-point-reads.Learnt,
   fill-line-reads.Asked,
   fill-line-reads.Learnt,
   fill-rings-reads.Asked,
@@ -322,8 +322,8 @@ fill-geometry-same-length-6 t c = (c .before .before .before .before .fill-rings
 fill-geometry-returns-5 : (t : ℕ) → fill-geometry-lts.Need-returns-5 (
   read-header-reads.Asked,
   read-header-reads.Learnt,
-  fill-run-reads.Asked,
-  fill-run-reads.Learnt,
+  fill-point-reads.Asked,
+  fill-point-reads.Learnt,
   fill-line-reads.Asked,
   fill-line-reads.Learnt,
   fill-rings-reads.Asked,
@@ -337,8 +337,8 @@ fill-geometry-returns-5 t c = rw (geometry-is (c .before .before .before .before
 fill-geometry-same-length-7 : (t : ℕ) → fill-geometry-lts.Need-same-length-7 (
   read-header-reads.Asked,
   read-header-reads.Learnt,
-  fill-run-reads.Asked,
-  fill-run-reads.Learnt,
+  fill-point-reads.Asked,
+  fill-point-reads.Learnt,
   fill-line-reads.Asked,
   fill-line-reads.Learnt,
   fill-rings-reads.Asked,
@@ -351,8 +351,8 @@ fill-geometry-same-length-7 t c = (c .before .before .before .before .fill-membe
 fill-geometry-same-length-8 : (t : ℕ) → fill-geometry-lts.Need-same-length-8 (
   read-header-reads.Asked,
   read-header-reads.Learnt,
-  fill-run-reads.Asked,
-  fill-run-reads.Learnt,
+  fill-point-reads.Asked,
+  fill-point-reads.Learnt,
   fill-line-reads.Asked,
   fill-line-reads.Learnt,
   fill-rings-reads.Asked,
@@ -365,8 +365,8 @@ fill-geometry-same-length-8 t c = (c .before .before .before .before .fill-membe
 fill-geometry-returns-6 : (t : ℕ) → fill-geometry-lts.Need-returns-6 (
   read-header-reads.Asked,
   read-header-reads.Learnt,
-  fill-run-reads.Asked,
-  fill-run-reads.Learnt,
+  fill-point-reads.Asked,
+  fill-point-reads.Learnt,
   fill-line-reads.Asked,
   fill-line-reads.Learnt,
   fill-rings-reads.Asked,
@@ -380,8 +380,8 @@ fill-geometry-returns-6 t c = rw (geometry-is (c .before .before .before .before
 fill-geometry-returns-7 : (t : ℕ) → fill-geometry-lts.Need-returns-7 (
   read-header-reads.Asked,
   read-header-reads.Learnt,
-  fill-run-reads.Asked,
-  fill-run-reads.Learnt,
+  fill-point-reads.Asked,
+  fill-point-reads.Learnt,
   fill-line-reads.Asked,
   fill-line-reads.Learnt,
   fill-rings-reads.Asked,
@@ -395,8 +395,8 @@ fill-geometry-returns-7 t c = absurd (rw (geometry-is (c .before .before .before
 fill-geometry-returns-8 : (t : ℕ) → fill-geometry-lts.Need-returns-8 (
   read-header-reads.Asked,
   read-header-reads.Learnt,
-  fill-run-reads.Asked,
-  fill-run-reads.Learnt,
+  fill-point-reads.Asked,
+  fill-point-reads.Learnt,
   fill-line-reads.Asked,
   fill-line-reads.Learnt,
   fill-rings-reads.Asked,
@@ -410,8 +410,8 @@ fill-geometry-returns-8 t c = absurd (rw (geometry-is (c .before .before .before
 fill-geometry-returns-9 : (t : ℕ) → fill-geometry-lts.Need-returns-9 (
   read-header-reads.Asked,
   read-header-reads.Learnt,
-  fill-run-reads.Asked,
-  fill-run-reads.Learnt,
+  fill-point-reads.Asked,
+  fill-point-reads.Learnt,
   fill-line-reads.Asked,
   fill-line-reads.Learnt,
   fill-rings-reads.Asked,
@@ -514,8 +514,8 @@ pub +fill-geometry+fill-members-spec : {M : Type 1} → statement M
     close μ-fill-geometry μ-fill-members (λ t. fill-geometry-lts.spec (
       read-header-reads.Asked,
       read-header-reads.Learnt,
-      fill-run-reads.Asked,
-      fill-run-reads.Learnt,
+      fill-point-reads.Asked,
+      fill-point-reads.Learnt,
       fill-line-reads.Asked,
       fill-line-reads.Learnt,
       fill-rings-reads.Asked,
@@ -529,7 +529,7 @@ pub +fill-geometry+fill-members-spec : {M : Type 1} → statement M
     (fill-geometry-read-header-requires t)
     (fill-geometry-enum-told t)
     (fill-geometry-enum-known-h t)
-    (fill-geometry-fill-run-requires t)
+    (fill-geometry-fill-point-requires t)
     (fill-geometry-fill-line-requires t)
     (fill-geometry-fill-rings-requires t)
     (fill-geometry-sub-fill-members t)
