@@ -29,4 +29,5 @@ pub mod Slack
 pub mod FarthestSkip
 pub mod ClosestSkip
 pub mod MinMaxCases
+pub mod GapTests
 pub mod Patterns

@@ -2,7 +2,7 @@
 ghost use mathlib.Core.Path.{_≡_};
 ghost use Rattle.primitives.specs.Vectors.{differenceOf, dotOf, crossOf, interpolatedOf, normOf, squaredDistance};
 ghost use Rattle.primitives.specs.Witnesses.{betweenOf, smallerOf, firstPoint, secondPoint, flippedOf};
-ghost use Rattle.primitives.specs.Boxes.{boxOfPoint, addPoint, leastCorner, greatestCorner, unionOf, leastGap, greatestGap, leastSquaredGap, greatestSquaredGap};
+ghost use Rattle.primitives.specs.Boxes.{boxOfPoint, addPoint, leastCorner, greatestCorner, unionOf, squared, leastGap, greatestGap, leastSquaredGap, greatestSquaredGap};
 
 // A point, or a vector.
 pub struct Point {
@@ -134,11 +134,14 @@ impl Witness {
     }
 }
 
-// The least gap of two ranges on one axis.
+// The least gap of two ranges on one axis, up to the sign of a zero.
 fn least_gap(lo: f64, hi: f64, other_lo: f64, other_hi: f64) -> f64
-    ensures { λ r. ⌜ r ≡ leastGap lo hi «other_lo» «other_hi» ⌝ }
+    ensures { λ r. ⌜ squared r ≡ squared (leastGap lo hi «other_lo» «other_hi») ⌝ }
 {
-    ieee754::maximum(ieee754::maximum(lo - other_hi, other_lo - hi), 0.0)
+    let below = lo - other_hi;
+    let above = other_lo - hi;
+    let least = if below > 0.0 { below } else { 0.0 };
+    if above > least { above } else { least }
 }
 
 // The greatest gap of two ranges on one axis.
