@@ -1,0 +1,25 @@
+-- A listing that grows. Serves inner contracts. Definitions only.
+use Prim.Native.Nat.{ℕ, _*_}
+use mathlib.Core.Bool.{cond}
+use mathlib.Core.List.{List, _++_}
+use lib.Dec.{ltb}
+use lib.Seq.{sets}
+use lib.Ieee.{Float}
+use Rattle.primitives.specs.declared.Aabb.{Aabb}
+use Rattle.items.specs.Items.{Item}
+use Rattle.listing.specs.declared.Listing.{Listing}
+use Rattle.listing.specs.declared.Place.{Place}
+use Rattle.listing.specs.Rows.{floatsPerBox, boxFloats, numbersPerPlace, placeNumbers}
+use Rattle.listing.specs.Listing.{mostListed, Lists}
+
+-- the boxes with one more as the k-th, if there is room for it
+abbrev pub withBox : List Float → ℕ → Aabb → List Float
+withBox boxes k b = cond (ltb k mostListed) (sets boxes (floatsPerBox * k) (boxFloats b)) boxes
+
+-- the places with one more as the k-th, if there is room for it
+abbrev pub withPlace : List ℕ → ℕ → Place → List ℕ
+withPlace places k p = cond (ltb k mostListed) (sets places (numbersPerPlace * k) (placeNumbers p)) places
+
+-- what the first listing lists, and the items after it, is what the second lists
+abbrev pub Adds : List Item → List Float → Listing → List Float → List ℕ → Listing → List Float → List ℕ → Type 0
+Adds more floats list boxes places list′ boxes′ places′ = (is : List Item) → Lists list is floats boxes places → Lists list′ (is ++ more) floats boxes′ places′
