@@ -2,13 +2,22 @@
 use items::Class;
 use items::Shape;
 use primitives::Aabb;
+use primitives::Point;
 ghost use mathlib.Core.Path.{_≡_};
-ghost use Prim.Native.Nat.{_+_, _*_, _≤_};
+ghost use mathlib.Core.Bool.{cond};
+ghost use mathlib.Core.List.{[], _∷_};
+ghost use Prim.Native.Nat.{_+_, _*_, _<_, _≤_};
+ghost use lib.Dec.{ltb};
 ghost use lib.ListN.{length};
 ghost use lib.Seq.{sets};
-ghost use Rattle.items.specs.Inner.{itemOf};
+ghost use Rattle.workspace.specs.Workspace.{floatsPerCoordinate};
+ghost use Rattle.primitives.specs.Boxes.{unionOf};
+ghost use Rattle.parts.specs.Stored.{pointsFrom, storedRuns, pointCount, Laid};
+ghost use Rattle.items.specs.Items.{itemsOf};
+ghost use Rattle.items.specs.Inner.{itemOf, isOfClass, itemsBy, classItems, itemCount, itemAt};
 ghost use Rattle.listing.specs.Rows.{floatsPerBox, boxFloats, boxAt, numbersPerPlace, codeOf, classOfCode, placeNumbers, placeAt};
-ghost use Rattle.listing.specs.Listing.{pointsIn, itemPlaced, RoomAt};
+ghost use Rattle.listing.specs.Listing.{mostListed, pointsIn, itemPlaced, RoomAt, Lists};
+ghost use Rattle.listing.specs.Inner.{withBox, withPlace, Adds};
 
 // At most so many items are listed with box and place.
 pub const LISTED: usize = 16;
@@ -125,4 +134,158 @@ pub fn shape_at(floats: &[f64], p: Place) -> Shape
     let at = p.at;
     let j = p.j;
     items::item_at(class, floats, at, j + points_in(class), j)
+}
+
+// The box of k items, with one more box in it.
+fn unite(k: usize, all: Aabb, b: Aabb) -> Aabb
+    ensures { λ r. ⌜ r ≡ cond (ltb 0 k) (unionOf all b) b ⌝ }
+{
+    if k == 0 {
+        return b;
+    }
+    all.union(b)
+}
+
+// Box and place of an item as the k-th, if there is room for it.
+fn store(boxes: &mut [f64], places: &mut [usize], k: usize, b: Aabb, p: Place)
+    requires { ⌜ floatsPerBox * mostListed ≤ length (now boxes) ⌝ }
+    requires { ⌜ numbersPerPlace * mostListed ≤ length (now places) ⌝ }
+    ensures { λ _. ⌜ now (boxes .exit) ≡ withBox (now (boxes .entry)) k b ⌝ }
+    ensures { λ _. ⌜ now (places .exit) ≡ withPlace (now (places .entry)) k p ⌝ }
+{
+    if LISTED <= k {
+        return;
+    }
+    put_box(boxes, k, b);
+    put_place(places, k, p);
+}
+
+// A listing with item j of a run of n points more.
+fn list_item(
+    list: Listing,
+    class: Class,
+    floats: &[f64],
+    at: usize,
+    n: usize,
+    j: usize,
+    boxes: &mut [f64],
+    places: &mut [usize],
+) -> Listing
+    requires { ⌜ (floatsPerCoordinate * (at + n) ≤ length (now floats)) × (j < itemCount class n) ⌝ }
+    requires { ⌜ list .count < length (now floats) ⌝ }
+    requires { ⌜ floatsPerBox * mostListed ≤ length (now boxes) ⌝ }
+    requires { ⌜ numbersPerPlace * mostListed ≤ length (now places) ⌝ }
+    ensures { λ r. ⌜ r .count ≡ list .count + 1 ⌝ }
+    ensures { λ r. ⌜ Adds (itemAt class (now (floats .entry)) at j ∷ []) (now (floats .entry)) list (now (boxes .entry)) (now (places .entry)) r (now (boxes .exit)) (now (places .exit)) ⌝ }
+{
+    let all = list.all;
+    let k = list.count;
+    let b = items::box_of(items::item_at(class, floats, at, n, j));
+    store(boxes, places, k, b, Place { class, at, j });
+    Listing {
+        count: k + 1,
+        all: unite(k, all, b),
+    }
+}
+
+// A listing with the items of a run of n points more.
+fn list_items(
+    list: Listing,
+    class: Class,
+    floats: &[f64],
+    at: usize,
+    n: usize,
+    boxes: &mut [f64],
+    places: &mut [usize],
+) -> Listing
+    requires { ⌜ floatsPerCoordinate * (at + n) ≤ length (now floats) ⌝ }
+    requires { ⌜ list .count + n ≤ length (now floats) ⌝ }
+    requires { ⌜ floatsPerBox * mostListed ≤ length (now boxes) ⌝ }
+    requires { ⌜ numbersPerPlace * mostListed ≤ length (now places) ⌝ }
+    ensures { λ r. ⌜ r .count ≤ list .count + n ⌝ }
+    ensures { λ r. ⌜ Adds (itemsBy class (pointsFrom (now (floats .entry)) at n)) (now (floats .entry)) list (now (boxes .entry)) (now (places .entry)) r (now (boxes .exit)) (now (places .exit)) ⌝ }
+{
+    let mut seen = list;
+    let count = items::item_count(class, n);
+    let mut j = 0;
+    while j < count {
+        seen = list_item(seen, class, floats, at, n, j, boxes, places);
+        j += 1;
+    }
+    seen
+}
+
+// A listing with the items of a run of n points of the kind more, if it is of the class.
+fn list_run(
+    list: Listing,
+    class: Class,
+    kind: u32,
+    floats: &[f64],
+    at: usize,
+    n: usize,
+    boxes: &mut [f64],
+    places: &mut [usize],
+) -> Listing
+    requires { ⌜ floatsPerCoordinate * (at + n) ≤ length (now floats) ⌝ }
+    requires { ⌜ list .count + n ≤ length (now floats) ⌝ }
+    requires { ⌜ floatsPerBox * mostListed ≤ length (now boxes) ⌝ }
+    requires { ⌜ numbersPerPlace * mostListed ≤ length (now places) ⌝ }
+    ensures { λ r. ⌜ r .count ≤ list .count + n ⌝ }
+    ensures { λ r. ⌜ Adds (cond (isOfClass class kind) (itemsBy class (pointsFrom (now (floats .entry)) at n)) []) (now (floats .entry)) list (now (boxes .entry)) (now (places .entry)) r (now (boxes .exit)) (now (places .exit)) ⌝ }
+{
+    if items::is_of_class(class, kind) {
+        return list_items(list, class, floats, at, n, boxes, places);
+    }
+    list
+}
+
+// A listing with the items of a class more.
+fn list_class(
+    list: Listing,
+    class: Class,
+    floats: &[f64],
+    table: &[u32],
+    boxes: &mut [f64],
+    places: &mut [usize],
+) -> Listing
+    requires { ⌜ Laid (now table) (now floats) ⌝ }
+    requires { ⌜ list .count + pointCount (now table) ≤ length (now floats) ⌝ }
+    requires { ⌜ floatsPerBox * mostListed ≤ length (now boxes) ⌝ }
+    requires { ⌜ numbersPerPlace * mostListed ≤ length (now places) ⌝ }
+    ensures { λ r. ⌜ r .count ≤ list .count + pointCount (now (table .entry)) ⌝ }
+    ensures { λ r. ⌜ Adds (classItems class (storedRuns (now (table .entry)) (now (floats .entry)))) (now (floats .entry)) list (now (boxes .entry)) (now (places .entry)) r (now (boxes .exit)) (now (places .exit)) ⌝ }
+{
+    let mut seen = list;
+    let count = parts::run_count(table);
+    let mut at = 0;
+    let mut r = 0;
+    while r < count {
+        let n = parts::count_at(table, r);
+        let kind = parts::kind_at(table, r);
+        seen = list_run(seen, class, kind, floats, at, n, boxes, places);
+        at += n;
+        r += 1;
+    }
+    seen
+}
+
+// All items of a side in order, the first 16 with box and place.
+pub fn list_all(floats: &[f64], table: &[u32], boxes: &mut [f64], places: &mut [usize]) -> Listing
+    requires { ⌜ Laid (now table) (now floats) ⌝ }
+    requires { ⌜ floatsPerBox * mostListed ≤ length (now boxes) ⌝ }
+    requires { ⌜ numbersPerPlace * mostListed ≤ length (now places) ⌝ }
+    ensures { λ r. ⌜ Lists r (itemsOf (storedRuns (now (table .entry)) (now (floats .entry)))) (now (floats .entry)) (now (boxes .exit)) (now (places .exit)) ⌝ }
+{
+    let origin = Point {
+        x: 0.0,
+        y: 0.0,
+        z: 0.0,
+    };
+    let empty = Listing {
+        count: 0,
+        all: Aabb::point(origin),
+    };
+    let points = list_class(empty, Class::Points, floats, table, boxes, places);
+    let segments = list_class(points, Class::Segments, floats, table, boxes, places);
+    list_class(segments, Class::Triangles, floats, table, boxes, places)
 }

@@ -1,0 +1,124 @@
+-- A listing of no item, of one item more, and of some items of a whole. Assumes nothing.
+use mathlib.Core.Path.{_≡_, refl, sym, ap, _∙_}
+use mathlib.Core.Bool.{Bool, true, false, cond}
+use mathlib.Core.List.{List, [], _∷_, _++_, foldl, foldl-append, append-assoc, append-nil}
+use mathlib.Core.Option.{Option, none, some}
+use Prim.Native.Nat.{ℕ, zero, suc, _+_, _*_, _<_, _≤_}
+use native.Mathlib.Numerals.{add-one}
+use native.Mathlib.Omega.{arith}
+use borrow.Author.Count.{below-more, below-none}
+use borrow.Author.Tests.{lt-ltb}
+use lib.Dec.{ltb}
+use lib.ListN.{length, drop, length-append}
+use lib.Seq.{sets}
+use lib.Ieee.{Float}
+use Rattle.workspace.specs.Workspace.{numbersPerRun}
+use Rattle.coords.specs.Parts.{Run}
+use Rattle.primitives.specs.declared.Point.{Point}
+use Rattle.primitives.specs.declared.Aabb.{Aabb}
+use Rattle.primitives.specs.Boxes.{unionOf}
+use Rattle.parts.specs.Stored.{pointsFrom, runsFrom, runCount, kindAt, countAt}
+use Rattle.parts.proofs.Turns.{runs-next}
+use Rattle.items.specs.Items.{Item, itemsOfKind, itemsOf, boxOfItem}
+use Rattle.items.specs.Inner.{isOfClass, itemsBy, classItems, itemCount, itemAt}
+use Rattle.items.specs.declared.Class.{Class}
+use Rattle.items.specs.declared.Class.the-variants.{Points, Segments, Triangles}
+use Rattle.items.proofs.Turns.{itemsLeft, turn-item}
+use Rattle.listing.specs.declared.Listing.{Listing}
+use Rattle.listing.specs.declared.Place.{Place}
+use Rattle.listing.specs.Rows.{floatsPerBox, boxFloats, boxAt, numbersPerPlace, placeNumbers, placeAt}
+use Rattle.listing.specs.Listing.{mostListed, uniteOne, boxOfAll, boundsOf, itemPlaced, RoomAt, listedItem, listedFrom, Entry, Entries, Lists}
+use Rattle.listing.specs.Inner.{withBox, withPlace, Adds}
+use Rattle.listing.proofs.Rows.{box-put, box-kept, place-put, place-kept}
+use Rattle.listing.proofs.Listed.{listed-more, listed-same}
+
+-- ---- no item
+pub lists-none : (all : Aabb) (floats boxes : List Float) (places : List ℕ) → Lists (record { count = 0; all = all }) [] floats boxes places
+unfolding boxOfAll listedFrom
+lists-none all floats boxes places = record { count = refl; box = refl; entries = λ h. below-none _; items = λ h. refl }
+
+-- ---- one item more
+united : (t : Bool) (box b : Aabb) (i : Item) → b ≡ boxOfItem i → some (cond t (unionOf box b) b) ≡ uniteOne (cond t (some box) none) i
+unfolding uniteOne
+united true box b i e = rw e
+united false box b i e = rw e
+
+-- the box and the place of one item more, stored
+module _ (floats boxes : List Float) (places : List ℕ) (k : ℕ) (b : Aabb) (p : Place)
+    (boxes-room : floatsPerBox * mostListed ≤ length boxes) (places-room : numbersPerPlace * mostListed ≤ length places)
+    (room : RoomAt floats p) (b-is : b ≡ boxOfItem (itemPlaced floats p)) (h : k < mostListed) where
+  entries-more : Entries k floats boxes places → Entries (k + 1) floats (withBox boxes k b) (withPlace places k p)
+  entries-more old =
+      rw (lt-ltb k mostListed h)
+      (below-more _ _
+      (λ m g. record { room = rw (place-kept places k p m g) (old m g .room); box = rw (place-kept places k p m g) (box-kept boxes k b m g ∙ old m g .box) })
+      (record { room = rw (place-put places k p (omega arith)) room; box = rw (place-put places k p (omega arith)) (box-put boxes k b (omega arith) ∙ b-is) }))
+
+  items-more : (is : List Item) → listedFrom floats places 0 k ≡ is → listedFrom floats (withPlace places k p) 0 (k + 1) ≡ is ++ (itemPlaced floats p ∷ [])
+  items-more is e =
+      let z : 0 + k ≡ k = omega arith in
+      rw (lt-ltb k mostListed h, add-one)
+      (listed-more floats _ k 0
+      ∙ rw (listed-same floats places (sets places (numbersPerPlace * k) (placeNumbers p)) k 0 (λ m g. place-kept places k p m (omega arith)), e, z, place-put places k p (omega arith)))
+
+pub lists-more : (floats boxes : List Float) (places : List ℕ) (list : Listing) (b all : Aabb) (p : Place)
+    → floatsPerBox * mostListed ≤ length boxes → numbersPerPlace * mostListed ≤ length places
+    → RoomAt floats p → b ≡ boxOfItem (itemPlaced floats p) → all ≡ cond (ltb 0 (list .count)) (unionOf (list .all) b) b
+    → Adds (itemPlaced floats p ∷ []) floats list boxes places (record { count = list .count + 1; all = all }) (withBox boxes (list .count) b) (withPlace places (list .count) p)
+unfolding boxOfAll
+lists-more floats boxes places list b all p hb hp room b-is all-is is l =
+    record {
+      count = simp length-append (omega (arith, l .count));
+      box = rw (lt-ltb 0 (list .count + 1) (omega arith), all-is, united (ltb 0 (list .count)) (list .all) b (itemPlaced floats p) b-is, l .box) (sym (foldl-append uniteOne none is (itemPlaced floats p ∷ [])));
+      entries = λ h. entries-more floats boxes places (list .count) b p hb hp room b-is (omega arith) (l .entries (omega arith));
+      items = λ h. items-more floats boxes places (list .count) b p hb hp room b-is (omega arith) is (l .items (omega arith));
+    }
+
+-- ---- some items of a whole
+-- what is listed, with the items that are left, is the whole
+pub record ListsBut (left whole : List Item) (list : Listing) (floats boxes : List Float) (places : List ℕ) : Type 0 where
+  pub done : List Item
+  pub joined : done ++ left ≡ whole
+  pub lists : Lists list done floats boxes places
+
+-- what the first listing lists, and the items after it but for those that are left, is what the second lists
+abbrev pub AddsBut : List Item → List Item → List Float → Listing → List Float → List ℕ → Listing → List Float → List ℕ → Type 0
+AddsBut left more floats list boxes places list′ boxes′ places′ = (is : List Item) → Lists list is floats boxes places → ListsBut left (is ++ more) list′ floats boxes′ places′
+
+module _ {floats : List Float} {list : Listing} {boxes : List Float} {places : List ℕ} where
+  pub adds-start : {left more : List Item} → left ≡ more → AddsBut left more floats list boxes places list boxes places
+  adds-start e is l = record { done = is; joined = ap (λ (x : List Item). is ++ x) e; lists = l }
+
+  module _ {list′ : Listing} {boxes′ : List Float} {places′ : List ℕ} {left more : List Item} (old : AddsBut left more floats list boxes places list′ boxes′ places′) where
+    pub adds-next : {now after : List Item} {list″ : Listing} {boxes″ : List Float} {places″ : List ℕ} → Adds now floats list′ boxes′ places′ list″ boxes″ places″ → left ≡ now ++ after
+        → AddsBut after more floats list boxes places list″ boxes″ places″
+    adds-next {now} {after} new e is l =
+        let o = old is l in
+        record {
+          done = o .done ++ now;
+          joined = append-assoc (o .done) now after ∙ ap (λ (x : List Item). o .done ++ x) (sym e) ∙ o .joined;
+          lists = new (o .done) (o .lists);
+        }
+
+    pub adds-end : left ≡ [] → Adds more floats list boxes places list′ boxes′ places′
+    adds-end e is l =
+        let o = old is l in
+        rw (← o .joined, e, append-nil) (o .lists)
+
+-- ---- what is left of a run, and of the runs
+pub item-next : (class : Class) (floats : List Float) (at n j : ℕ) → j < itemCount class n → itemsLeft class floats at n j ≡ (itemAt class floats at j ∷ []) ++ itemsLeft class floats at n (j + 1)
+item-next class floats at n j h = sym (turn-item class floats at n _++_ {s = []} {t = itemAt class floats at j ∷ []} j h refl (λ l. refl))
+
+-- run r, of n points and of kind k
+pub run-next : (class : Class) (floats : List Float) (table : List ℕ) (at r n k : ℕ) → r < runCount table → n ≡ countAt table r → k ≡ kindAt table r
+    → classItems class (runsFrom floats at (drop (numbersPerRun * r) table)) ≡ cond (isOfClass class k) (itemsBy class (pointsFrom floats at n)) [] ++ classItems class (runsFrom floats (at + n) (drop (numbersPerRun * (r + 1)) table))
+unfolding itemsOfKind
+run-next class floats table at r n k h n-is k-is = rw (runs-next table r h floats at, n-is, k-is)
+
+-- the items of the classes, one class after the other, are all items
+pub lists-classes : (rs : List (Run Point)) {floats : List Float} {list₀ list₁ list₂ list₃ : Listing} {boxes₀ boxes₁ boxes₂ boxes₃ : List Float} {places₀ places₁ places₂ places₃ : List ℕ}
+    → Lists list₀ [] floats boxes₀ places₀ → Adds (classItems Points rs) floats list₀ boxes₀ places₀ list₁ boxes₁ places₁
+    → Adds (classItems Segments rs) floats list₁ boxes₁ places₁ list₂ boxes₂ places₂ → Adds (classItems Triangles rs) floats list₂ boxes₂ places₂ list₃ boxes₃ places₃
+    → Lists list₃ (itemsOf rs) floats boxes₃ places₃
+unfolding itemsOf
+lists-classes rs start points segments triangles = rw (← append-assoc) (triangles (classItems Points rs ++ classItems Segments rs) (segments (classItems Points rs) (points [] start)))
