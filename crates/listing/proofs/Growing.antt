@@ -1,9 +1,9 @@
 -- A listing of no item, of one item more, and of some items of a whole. Assumes nothing.
 use mathlib.Core.Path.{_≡_, refl, sym, ap, _∙_}
 use mathlib.Core.Bool.{Bool, true, false, cond}
-use mathlib.Core.List.{List, [], _∷_, _++_, foldl, foldl-append, append-assoc, append-nil}
-use mathlib.Core.Option.{Option, none, some}
-use Prim.Native.Nat.{ℕ, zero, suc, _+_, _*_, _<_, _≤_}
+use mathlib.Core.List.{List, [], _∷_, _++_, foldl-append, append-assoc, append-nil}
+use mathlib.Core.Option.{none, some}
+use Prim.Native.Nat.{ℕ, _+_, _*_, _<_, _≤_}
 use native.Mathlib.Numerals.{add-one}
 use native.Mathlib.Omega.{arith}
 use borrow.Author.Count.{below-more, below-none}
@@ -26,8 +26,8 @@ use Rattle.items.specs.declared.Class.the-variants.{Points, Segments, Triangles
 use Rattle.items.proofs.Turns.{itemsLeft, turn-item}
 use Rattle.listing.specs.declared.Listing.{Listing}
 use Rattle.listing.specs.declared.Place.{Place}
-use Rattle.listing.specs.Rows.{floatsPerBox, boxFloats, boxAt, numbersPerPlace, placeNumbers, placeAt}
-use Rattle.listing.specs.Listing.{mostListed, uniteOne, boxOfAll, boundsOf, itemPlaced, RoomAt, listedItem, listedFrom, Entry, Entries, Lists}
+use Rattle.listing.specs.Rows.{floatsPerBox, numbersPerPlace, placeNumbers}
+use Rattle.listing.specs.Listing.{mostListed, uniteOne, boxOfAll, itemPlaced, RoomAt, listedFrom, Entries, Lists}
 use Rattle.listing.specs.Inner.{withBox, withPlace, Adds}
 use Rattle.listing.proofs.Rows.{box-put, box-kept, place-put, place-kept}
 use Rattle.listing.proofs.Listed.{listed-more, listed-same}

@@ -1,7 +1,6 @@
 -- `listing::put_box` meets its contract. Assumes nothing.
 use native.Mathlib.Numerals.{add-one, add-two, add-three, add-four, add-five}
 use native.Mathlib.Omega.{arith}
-use borrow.Author.Needs.{needs}
 use lib.ListN.{length-set}
 use Rattle.listing.proofs.put_box.Statement.{statement}
 use Rattle.listing.proofs.put_box.Tie as tie

@@ -1,6 +1,5 @@
 -- `listing::shape_at` meets its contract. Assumes nothing.
 use borrow.Author.Needs.{needs}
-use native.Mathlib.Omega.{arith}
 use Rattle.listing.proofs.Rows.{last-item}
 use Rattle.listing.proofs.shape_at.Statement.{statement}
 use Rattle.listing.proofs.shape_at.Tie as tie

@@ -1,7 +1,7 @@
 -- `listing::unite` meets its contract. Assumes nothing.
 use native.Mathlib.Omega.{arith}
 use borrow.Author.Needs.{needs}
-use borrow.Author.Tests.{lt-ltb, le-ltb, eqb-true}
+use borrow.Author.Tests.{lt-ltb, le-ltb}
 use Rattle.listing.proofs.unite.Statement.{statement}
 use Rattle.listing.proofs.unite.Tie as tie
 
