@@ -8,3 +8,4 @@ pub mod BestWitness
 pub mod Smallest
 pub mod NearestEdge
 pub mod TwoTriangles
+pub mod Repeats

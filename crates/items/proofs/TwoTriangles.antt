@@ -54,7 +54,7 @@ module _ (a b c d e f : Point) where
   both-distant : Each Distant vertices
   both-distant = each-append Distant (vertexWitnesses false a b c d e f) (vertexWitnesses true d e f a b c) (vertices-distant false a b c d e f) (vertices-distant true d e f a b c)
 
-  all-distant : Each Distant (triangleWitnesses a b c d e f)
+  pub all-distant : Each Distant (triangleWitnesses a b c d e f)
   all-distant =
       each-append Distant (edgeWitnesses a b d e f) (edgeWitnesses b c d e f ++ (edgeWitnesses c a d e f ++ vertices)) (edges-distant a b d e f)
       (each-append Distant (edgeWitnesses b c d e f) (edgeWitnesses c a d e f ++ vertices) (edges-distant b c d e f)

@@ -1,3 +1,4 @@
 pub mod Items
 pub mod Candidates
 pub mod Inner
+pub mod Repeats

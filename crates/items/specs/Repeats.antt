@@ -1,0 +1,65 @@
+-- Candidates that an item shares with the item before it and with the item after it in its run. Serves inner contracts. Definitions only.
+use mathlib.Core.Path.{_≡_}
+use mathlib.Core.List.{List, [], _∷_}
+use mathlib.Core.Option.{Option}
+use Rattle.primitives.specs.declared.Witness.{Witness}
+use Rattle.primitives.specs.Witnesses.{flippedOf}
+use Rattle.measures.specs.Measures.{segmentSegment, pointTriangle}
+use Rattle.extremes.specs.Sweeps.{shorter, taking}
+use Rattle.items.specs.Items.{Item, point, segment, triangle}
+use Rattle.items.specs.Inner.{edgeWitnesses}
+
+-- each of the witnesses, offered, changes nothing
+unfoldable pub AllSettled : Option Witness → List Witness → Type 0
+AllSettled best [] = Unit {0}
+AllSettled best (w ∷ ws) = (taking shorter best w ≡ best) × AllSettled best ws
+
+-- ---- an item of A with an item of B
+
+-- the candidates that the next item of A's run has too: those of the end of a segment, and of the first vertex, the last vertex and the edge between them of a fan's triangle
+unfoldable pub firstAfter : Item → Item → List Witness
+firstAfter (point p) i = []
+firstAfter (segment s e) (point q) = []
+firstAfter (segment s e) (segment u v) = []
+firstAfter (segment s e) (triangle a b c) = pointTriangle e a b c ∷ []
+firstAfter (triangle a b c) (point q) = []
+firstAfter (triangle a b c) (segment s e) = []
+firstAfter (triangle a b c) (triangle d e f) = pointTriangle a d e f ∷ pointTriangle c d e f ∷ edgeWitnesses c a d e f
+
+-- the candidates that the item before it in A's run has too
+unfoldable pub firstBefore : Item → Item → List Witness
+firstBefore (point p) i = []
+firstBefore (segment s e) (point q) = []
+firstBefore (segment s e) (segment u v) = []
+firstBefore (segment s e) (triangle a b c) = pointTriangle s a b c ∷ []
+firstBefore (triangle a b c) (point q) = []
+firstBefore (triangle a b c) (segment s e) = []
+firstBefore (triangle a b c) (triangle d e f) = pointTriangle a d e f ∷ pointTriangle b d e f ∷ edgeWitnesses b a d e f
+
+-- the candidates that the next item of B's run has too
+unfoldable pub secondAfter : Item → Item → List Witness
+secondAfter (point p) i = []
+secondAfter (segment s e) i = []
+secondAfter (triangle a b c) (point q) = []
+secondAfter (triangle a b c) (segment s e) = flippedOf (pointTriangle e a b c) ∷ []
+secondAfter (triangle a b c) (triangle d e f) =
+    flippedOf (pointTriangle d a b c)
+    ∷ flippedOf (pointTriangle f a b c)
+    ∷ segmentSegment a b f d
+    ∷ segmentSegment b c f d
+    ∷ segmentSegment c a f d
+    ∷ []
+
+-- the candidates that the item before it in B's run has too
+unfoldable pub secondBefore : Item → Item → List Witness
+secondBefore (point p) i = []
+secondBefore (segment s e) i = []
+secondBefore (triangle a b c) (point q) = []
+secondBefore (triangle a b c) (segment s e) = flippedOf (pointTriangle s a b c) ∷ []
+secondBefore (triangle a b c) (triangle d e f) =
+    flippedOf (pointTriangle d a b c)
+    ∷ flippedOf (pointTriangle e a b c)
+    ∷ segmentSegment a b e d
+    ∷ segmentSegment b c e d
+    ∷ segmentSegment c a e d
+    ∷ []
