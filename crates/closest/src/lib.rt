@@ -116,7 +116,13 @@ fn with_item(
     if no_closer(best, items::gap_to(class, a_box, floats, at, n, j)) {
         return best;
     }
-    items::offer(best, a, items::item_at(class, floats, at, n, j))
+    items::offer(
+        best,
+        a,
+        items::item_at(class, floats, at, n, j),
+        false,
+        false,
+    )
 }
 
 // How many items of a class run r has.

@@ -94,12 +94,16 @@ and-each true true false e = absurd (false≢true e)
 and-each true false c e = absurd (false≢true e)
 and-each false b c e = absurd (false≢true e)
 
+-- x stands for the witness w
+pub not-less-leaves : (b : Best) (flip : Bool) {x : Squared} {w : Witness} → Sound b → Squares x w → le (b .sum) (x .sum) ≡ true → Leaves b (flippedIf flip w)
+not-less-leaves b flip {x} h k l = rw (← k .same) (squares-not-less b flip x h (k .fitting) l)
+
 -- x y z stand for the witnesses w v u
 pub none-less : (b : Best) (flip : Bool) {x y z : Squared} {w v u : Witness} → Sound b → Squares x w → Squares y v → Squares z u → noneLess (b .sum) (x .sum) (y .sum) (z .sum) ≡ true
     → Leaves b (flippedIf flip w) × Leaves b (flippedIf flip v) × Leaves b (flippedIf flip u)
-none-less b flip {x} {y} {z} h k l m e =
+none-less b flip h k l m e =
     let t = and-each _ _ _ e in
-    (rw (← k .same) (squares-not-less b flip x h (k .fitting) (t .0)), rw (← l .same) (squares-not-less b flip y h (l .fitting) (t .1)), rw (← m .same) (squares-not-less b flip z h (m .fitting) (t .2)))
+    (not-less-leaves b flip h k (t .0), not-less-leaves b flip h l (t .1), not-less-leaves b flip h m (t .2))
 
 -- the smaller of two that leave it leaves it
 pub smaller-leaves : (b : Best) (m w : Witness) → Leaves b m → Leaves b w → Leaves b (smallerOf m w)

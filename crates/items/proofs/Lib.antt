@@ -9,3 +9,4 @@ pub mod Smallest
 pub mod NearestEdge
 pub mod TwoTriangles
 pub mod Repeats
+pub mod SparedTriangles

@@ -54,6 +54,10 @@ again s w h = taking-again shortest (λ (u : Unit {0}). w) (λ u. h .fit) s tt
 pub still-fits : (s : Option Witness) (w : Witness) → BestFits s → Distant w → BestFits (taking shorter s w)
 still-fits s w f h = taking-fits shortest (λ (u : Unit {0}). w) (λ u. h .fit) s tt f
 
+-- what was offered changes nothing after another
+pub again-later : (s : Option Witness) (w v : Witness) → BestFits s → Distant w → Distant v → taking shorter (taking shorter (taking shorter s w) v) w ≡ taking shorter (taking shorter s w) v
+again-later s w v f h k = stays (taking shorter s w) w v (still-fits s w f h) h k (again s w h)
+
 -- ---- many witnesses
 
 settled-after : (s : Option Witness) (ws : List Witness) (v : Witness) → BestFits s → Each Distant ws → Distant v → AllSettled s ws → AllSettled (taking shorter s v) ws

@@ -4,6 +4,8 @@ use primitives::Aabb;
 use primitives::Point;
 use primitives::Witness;
 ghost use mathlib.Core.Path.{_≡_};
+ghost use mathlib.Core.Bool.{true};
+ghost use mathlib.Core.List.{[], _∷_};
 ghost use mathlib.Core.Option.{none};
 ghost use Prim.Native.Nat.{_+_, _-_, _*_, _≤_, _<_};
 ghost use lib.Dec.{T};
@@ -11,12 +13,13 @@ ghost use lib.Ieee.{binary64, fits};
 ghost use lib.ListN.{length};
 ghost use Rattle.workspace.specs.Workspace.{floatsPerCoordinate};
 ghost use Rattle.primitives.specs.Boxes.{leastSquaredGap};
-ghost use Rattle.measures.specs.Measures.{pointEdges, pointTriangle, triangleTriangle};
+ghost use Rattle.measures.specs.Measures.{segmentSegment, pointEdges, pointTriangle, triangleTriangle};
 ghost use Rattle.measures.specs.Squared.{rooted};
 ghost use Rattle.extremes.specs.Sweeps.{shorter, taking};
 ghost use Rattle.items.specs.Items.{point, segment, triangle, boxOfItem};
 ghost use Rattle.items.specs.Candidates.{candidatesOf};
 ghost use Rattle.items.specs.Inner.{itemOf, isOfClass, itemCount, itemAt, bestOf, Sound, Keeps, noneLess, offeredAll, flippedIf, edgeWitnesses, vertexWitnesses};
+ghost use Rattle.items.specs.Repeats.{AllSettled, firstBefore, secondBefore};
 
 // The classes of items.
 pub enum Class {
@@ -252,24 +255,52 @@ fn pt_tri(best: Best, p: Point, a: Point, b: Point, c: Point, flip: bool) -> Bes
     pt_edges(best, p, a, b, c, flip)
 }
 
-// The segment p q against the edges of a b c; a best of distance 0 stays.
-fn seg_edges(best: Best, p: Point, q: Point, a: Point, b: Point, c: Point) -> Best
+// The segment p q against the edges of a b c; a best of distance 0 stays. Where the edge b c was measured before, it is spared.
+fn seg_edges(best: Best, p: Point, q: Point, a: Point, b: Point, c: Point, closes: bool) -> Best
     requires { ⌜ Sound best ⌝ }
+    requires { ⌜ (closes ≡ true → taking shorter (bestOf best) (segmentSegment p q b c) ≡ bestOf best) ⌝ }
     ensures { λ r. ⌜ Keeps r (offeredAll (bestOf best) (edgeWitnesses p q a b c)) ⌝ }
 {
     if best.sum == 0.0 {
         return best;
     }
     let x = measures::seg_seg(p, q, a, b);
-    let y = measures::seg_seg(p, q, b, c);
     let z = measures::seg_seg(p, q, c, a);
+    if closes {
+        if x.sum >= best.sum {
+            if z.sum >= best.sum {
+                return best;
+            }
+        }
+        return offered(offered(best, x, false), z, false);
+    }
+    let y = measures::seg_seg(p, q, b, c);
     if none_less(best.sum, x.sum, y.sum, z.sum) {
         return best;
     }
     offered(offered(offered(best, x, false), y, false), z, false)
 }
 
-// Each vertex of a b c against the triangle d e f; a best of distance 0 stays.
+// Whether two floats have the same bits.
+fn same_bits(x: f64, y: f64) -> bool
+    ensures { λ r. ⌜ (r ≡ true → x ≡ y) ⌝ }
+{
+    ieee754::to_pattern(x) == ieee754::to_pattern(y)
+}
+
+// Whether two points have the same bits.
+fn same(a: Point, b: Point) -> bool
+    ensures { λ r. ⌜ (r ≡ true → a ≡ b) ⌝ }
+{
+    if same_bits(a.x, b.x) {
+        if same_bits(a.y, b.y) {
+            return same_bits(a.z, b.z);
+        }
+    }
+    false
+}
+
+// Each vertex of a b c against the triangle d e f; a best of distance 0 stays. Where a and b were measured before, they are spared, and so is c where it is a.
 fn vertices(
     best: Best,
     a: Point,
@@ -279,21 +310,54 @@ fn vertices(
     e: Point,
     f: Point,
     flip: bool,
+    again: bool,
 ) -> Best
     requires { ⌜ Sound best ⌝ }
+    requires { ⌜ (again ≡ true → AllSettled (bestOf best) (flippedIf flip (pointTriangle a d e f) ∷ flippedIf flip (pointTriangle b d e f) ∷ [])) ⌝ }
     ensures { λ r. ⌜ Keeps r (offeredAll (bestOf best) (vertexWitnesses flip a b c d e f)) ⌝ }
 {
     if best.sum == 0.0 {
         return best;
     }
+    if again {
+        if same(a, c) {
+            return best;
+        }
+        return pt_tri(best, c, d, e, f, flip);
+    }
     let first = pt_tri(best, a, d, e, f, flip);
     let second = pt_tri(first, b, d, e, f, flip);
+    if same(a, c) {
+        return second;
+    }
     pt_tri(second, c, d, e, f, flip)
 }
 
+// Whether a triangle a b c follows a measured one and ends a closed ring: c is a.
+fn closes_ring(follows: bool, a: Point, c: Point) -> bool
+    ensures { λ r. ⌜ (r ≡ true → (follows ≡ true) × (a ≡ c)) ⌝ }
+{
+    if follows {
+        return same(a, c);
+    }
+    false
+}
+
 // Two filled triangles: +infinity, each pair of edges, then the vertices of each against the other.
-fn tri_tri(best: Best, a: Point, b: Point, c: Point, d: Point, e: Point, f: Point) -> Best
+fn tri_tri(
+    best: Best,
+    a: Point,
+    b: Point,
+    c: Point,
+    d: Point,
+    e: Point,
+    f: Point,
+    follows_a: bool,
+    follows_b: bool,
+) -> Best
     requires { ⌜ Sound best ⌝ }
+    requires { ⌜ («follows_a» ≡ true → AllSettled (bestOf best) (firstBefore (triangle a b c) (triangle d e f))) ⌝ }
+    requires { ⌜ («follows_b» ≡ true → AllSettled (bestOf best) (secondBefore (triangle a b c) (triangle d e f))) ⌝ }
     ensures { λ r. ⌜ Keeps r (taking shorter (bestOf best) (triangleTriangle a b c d e f)) ⌝ }
 {
     let infinity = Squared {
@@ -302,11 +366,17 @@ fn tri_tri(best: Best, a: Point, b: Point, c: Point, d: Point, e: Point, f: Poin
         b: d,
     };
     let start = offered(best, infinity, false);
-    let first = seg_edges(start, a, b, d, e, f);
-    let second = seg_edges(first, b, c, d, e, f);
-    let third = seg_edges(second, c, a, d, e, f);
+    let a_closes = closes_ring(follows_a, a, c);
+    let b_closes = closes_ring(follows_b, d, f);
+    let first = seg_edges(start, a, b, d, e, f, b_closes);
+    let second = if a_closes {
+        first
+    } else {
+        seg_edges(first, b, c, d, e, f, b_closes)
+    };
+    let third = seg_edges(second, c, a, d, e, f, b_closes);
     vertices(
-        vertices(third, a, b, c, d, e, f, false),
+        vertices(third, a, b, c, d, e, f, false, follows_a),
         d,
         e,
         f,
@@ -314,6 +384,7 @@ fn tri_tri(best: Best, a: Point, b: Point, c: Point, d: Point, e: Point, f: Poin
         b,
         c,
         true,
+        follows_b,
     )
 }
 
@@ -334,18 +405,32 @@ fn from_point(best: Best, p: Point, i: Shape) -> Best
 }
 
 // A segment of A with a triangle of B.
-fn segment_triangle(best: Best, s: Point, e: Point, a: Point, b: Point, c: Point) -> Best
+fn segment_triangle(
+    best: Best,
+    s: Point,
+    e: Point,
+    a: Point,
+    b: Point,
+    c: Point,
+    follows_a: bool,
+) -> Best
     requires { ⌜ Sound best ⌝ }
+    requires { ⌜ («follows_a» ≡ true → AllSettled (bestOf best) (firstBefore (segment s e) (triangle a b c))) ⌝ }
     ensures { λ r. ⌜ Keeps r (offeredAll (bestOf best) (candidatesOf (segment s e) (triangle a b c))) ⌝ }
 {
-    let start = pt_tri(best, s, a, b, c, false);
+    let start = if follows_a {
+        best
+    } else {
+        pt_tri(best, s, a, b, c, false)
+    };
     let ends = pt_tri(start, e, a, b, c, false);
-    seg_edges(ends, s, e, a, b, c)
+    seg_edges(ends, s, e, a, b, c, false)
 }
 
 // A segment of A with an item of B.
-fn from_segment(best: Best, s: Point, e: Point, i: Shape) -> Best
+fn from_segment(best: Best, s: Point, e: Point, i: Shape, follows_a: bool) -> Best
     requires { ⌜ Sound best ⌝ }
+    requires { ⌜ («follows_a» ≡ true → AllSettled (bestOf best) (firstBefore (segment s e) (itemOf i))) ⌝ }
     ensures { λ r. ⌜ Keeps r (offeredAll (bestOf best) (candidatesOf (segment s e) (itemOf i))) ⌝ }
 {
     let class = i.class;
@@ -355,16 +440,29 @@ fn from_segment(best: Best, s: Point, e: Point, i: Shape) -> Best
     match class {
         Class::Points => offered(best, measures::pt_seg(a, s, e), true),
         Class::Segments => offered(best, measures::seg_seg(s, e, a, b), false),
-        Class::Triangles => segment_triangle(best, s, e, a, b, c),
+        Class::Triangles => segment_triangle(best, s, e, a, b, c, follows_a),
     }
 }
 
 // A triangle of A with a segment of B.
-fn triangle_segment(best: Best, a: Point, b: Point, c: Point, s: Point, e: Point) -> Best
+fn triangle_segment(
+    best: Best,
+    a: Point,
+    b: Point,
+    c: Point,
+    s: Point,
+    e: Point,
+    follows_b: bool,
+) -> Best
     requires { ⌜ Sound best ⌝ }
+    requires { ⌜ («follows_b» ≡ true → AllSettled (bestOf best) (secondBefore (triangle a b c) (segment s e))) ⌝ }
     ensures { λ r. ⌜ Keeps r (offeredAll (bestOf best) (candidatesOf (triangle a b c) (segment s e))) ⌝ }
 {
-    let start = pt_tri(best, s, a, b, c, true);
+    let start = if follows_b {
+        best
+    } else {
+        pt_tri(best, s, a, b, c, true)
+    };
     let ends = pt_tri(start, e, a, b, c, true);
     let first = offered(ends, measures::seg_seg(a, b, s, e), false);
     let second = offered(first, measures::seg_seg(b, c, s, e), false);
@@ -372,8 +470,18 @@ fn triangle_segment(best: Best, a: Point, b: Point, c: Point, s: Point, e: Point
 }
 
 // A triangle of A with an item of B.
-fn from_triangle(best: Best, u: Point, v: Point, w: Point, i: Shape) -> Best
+fn from_triangle(
+    best: Best,
+    u: Point,
+    v: Point,
+    w: Point,
+    i: Shape,
+    follows_a: bool,
+    follows_b: bool,
+) -> Best
     requires { ⌜ Sound best ⌝ }
+    requires { ⌜ («follows_a» ≡ true → AllSettled (bestOf best) (firstBefore (triangle u v w) (itemOf i))) ⌝ }
+    requires { ⌜ («follows_b» ≡ true → AllSettled (bestOf best) (secondBefore (triangle u v w) (itemOf i))) ⌝ }
     ensures { λ r. ⌜ Keeps r (offeredAll (bestOf best) (candidatesOf (triangle u v w) (itemOf i))) ⌝ }
 {
     let class = i.class;
@@ -382,14 +490,16 @@ fn from_triangle(best: Best, u: Point, v: Point, w: Point, i: Shape) -> Best
     let c = i.c;
     match class {
         Class::Points => pt_tri(best, a, u, v, w, true),
-        Class::Segments => triangle_segment(best, u, v, w, a, b),
-        Class::Triangles => tri_tri(best, u, v, w, a, b, c),
+        Class::Segments => triangle_segment(best, u, v, w, a, b, follows_b),
+        Class::Triangles => tri_tri(best, u, v, w, a, b, c, follows_a, follows_b),
     }
 }
 
-// The candidates of an item of A with an item of B, offered in order.
-pub fn offer(best: Best, o: Shape, i: Shape) -> Best
+// The candidates of an item of A with an item of B, offered in order, less those that the item before o (follows_a) or before i (follows_b) in its run offered.
+pub fn offer(best: Best, o: Shape, i: Shape, follows_a: bool, follows_b: bool) -> Best
     requires { ⌜ Sound best ⌝ }
+    requires { ⌜ («follows_a» ≡ true → AllSettled (bestOf best) (firstBefore (itemOf o) (itemOf i))) ⌝ }
+    requires { ⌜ («follows_b» ≡ true → AllSettled (bestOf best) (secondBefore (itemOf o) (itemOf i))) ⌝ }
     ensures { λ r. ⌜ Keeps r (offeredAll (bestOf best) (candidatesOf (itemOf o) (itemOf i))) ⌝ }
 {
     let class = o.class;
@@ -398,7 +508,7 @@ pub fn offer(best: Best, o: Shape, i: Shape) -> Best
     let c = o.c;
     match class {
         Class::Points => from_point(best, a, i),
-        Class::Segments => from_segment(best, a, b, i),
-        Class::Triangles => from_triangle(best, a, b, c, i),
+        Class::Segments => from_segment(best, a, b, i, follows_a),
+        Class::Triangles => from_triangle(best, a, b, c, i, follows_a, follows_b),
     }
 }

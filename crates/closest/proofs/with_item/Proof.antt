@@ -1,4 +1,5 @@
 -- `closest::with_item` meets its contract. Assumes nothing.
+use mathlib.Core.Bool.{false≢true}
 use borrow.Author.Needs.{needs}
 use Rattle.closest.specs.Closest.{withItem}
 use Rattle.closest.proofs.with_item.Statement.{statement}
@@ -17,7 +18,7 @@ item-at-requires : tie.Need-item-at-requires
 item-at-requires c κs = search needs
 
 offer-requires : tie.Need-offer-requires
-offer-requires c κs = search needs
+offer-requires c κs = (c .before .before .before .before .before .pre .0, (λ t. absurd (false≢true t), λ t. absurd (false≢true t)))
 
 returns-2 : tie.Need-returns-2
 unfolding withItem

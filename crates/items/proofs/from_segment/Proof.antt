@@ -26,7 +26,7 @@ enum-told-3 : tie.Need-enum-told-3
 enum-told-3 c = search needs
 
 segment-triangle-requires : tie.Need-segment-triangle-requires
-segment-triangle-requires c κs = search needs
+segment-triangle-requires c κs = let start = c .before .before .before .before .before in (start .pre .0, λ t. rw (c .enum-told3 .given .1) at (start .pre .1 t))
 
 returns : tie.Need-returns
 unfolding candidatesOf

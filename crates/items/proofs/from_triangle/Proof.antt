@@ -14,13 +14,13 @@ enum-told-2 : tie.Need-enum-told-2
 enum-told-2 c = search needs
 
 triangle-segment-requires : tie.Need-triangle-segment-requires
-triangle-segment-requires c κs = search needs
+triangle-segment-requires c κs = let start = c .before .before .before .before .before in (start .pre .0, λ t. rw (c .enum-told2 .given .1) at (start .pre .1 .1 t))
 
 enum-told-3 : tie.Need-enum-told-3
 enum-told-3 c = search needs
 
 tri-tri-requires : tie.Need-tri-tri-requires
-tri-tri-requires c κs = search needs
+tri-tri-requires c κs = let start = c .before .before .before .before .before in (start .pre .0, (λ t. rw (c .enum-told3 .given .1) at (start .pre .1 .0 t), λ t. rw (c .enum-told3 .given .1) at (start .pre .1 .1 t)))
 
 returns : tie.Need-returns
 unfolding candidatesOf

@@ -13,13 +13,13 @@ enum-told-2 : tie.Need-enum-told-2
 enum-told-2 c = search needs
 
 from-segment-requires : tie.Need-from-segment-requires
-from-segment-requires c κs = search needs
+from-segment-requires c κs = let start = c .before .before .before .before .before in (start .pre .0, λ t. rw (c .enum-told2 .given .1) at (start .pre .1 .0 t))
 
 enum-told-3 : tie.Need-enum-told-3
 enum-told-3 c = search needs
 
 from-triangle-requires : tie.Need-from-triangle-requires
-from-triangle-requires c κs = search needs
+from-triangle-requires c κs = let start = c .before .before .before .before .before in (start .pre .0, (λ t. rw (c .enum-told3 .given .1) at (start .pre .1 .0 t), λ t. rw (c .enum-told3 .given .1) at (start .pre .1 .1 t)))
 
 returns : tie.Need-returns
 returns c = rw (c .before .enum-told .given .1) (c .from-point .ensures)

@@ -1,43 +1,98 @@
 -- `items::tri_tri` meets its contract. Assumes nothing.
+use mathlib.Core.Path.{sym}
+use mathlib.Core.Bool.{false}
+use mathlib.Core.List.{[], _∷_}
+use mathlib.Core.Logic.{⊎-elim}
 use borrow.Author.Needs.{needs}
 use lib.Ieee.{div, ofBits}
 use Rattle.ieee754.specs.Root.{rootOf}
 use Rattle.primitives.specs.Witnesses.{witnessOf}
 use Rattle.measures.specs.Measures.{infinitelyFar}
 use Rattle.measures.specs.Squared.{rooted}
-use Rattle.items.specs.Inner.{bestOf}
+use Rattle.items.specs.Inner.{bestOf, Keeps, offeredAll, edgeWitnesses, vertexWitnesses}
+use Rattle.items.specs.declared.Best.{Best}
 use Rattle.items.proofs.BestWitness.{sound-fits}
-use Rattle.items.proofs.TwoTriangles.{triangles-offered}
+use Rattle.items.proofs.NotBelowZero.{infinite}
+use Rattle.items.proofs.SparedTriangles.{Spared, spared-after, first-vertices, second-vertices, middle-edge, other-edge}
+use Rattle.items.proofs.TwoTriangles.{edges-distant, vertices-distant, triangles-offered}
 use Rattle.items.proofs.tri_tri.Statement.{statement}
 use Rattle.items.proofs.tri_tri.Tie as tie
 
+-- ---- what may be passed over, at each state of the best
+abbrev SparedAt : tie.Start → Best → Type 0
+SparedAt s k = Spared (s .args .a) (s .args .b) (s .args .c) (s .args .d) (s .args .e) (s .args .f) (s .args .follows-a) (s .args .follows-b) k
+
+given : (s : tie.Start) → SparedAt s (s .args .best)
+given s = record { first = s .pre .1 .0; second = s .pre .1 .1 }
+
+at-start : (c : tie.After-closes-ring2) → SparedAt (c .before .before .before) (c .before .before .offered .result)
+unfolding div ofBits rootOf witnessOf infinitelyFar rooted
+at-start c =
+    let s = c .before .before .before in
+    spared-after (given s) (infinitelyFar (s .args .a) (s .args .d) ∷ []) (s .pre .0) (infinite (s .args .a) (s .args .d), tt) (c .before .before .offered .ensures)
+
+at-first : (c : tie.After-seg-edges) → SparedAt (c .before .before .before .before) (c .seg-edges .result)
+at-first c =
+    let s = c .before .before .before .before in
+    spared-after (at-start (c .before)) (edgeWitnesses (s .args .a) (s .args .b) (s .args .d) (s .args .e) (s .args .f)) (c .before .before .before .offered .ensures .sound) (edges-distant _ _ _ _ _) (c .seg-edges .ensures)
+
+-- the edge b c, measured or spared
+second-offered : (c : tie.Joined1) → Keeps (c .if1 .second) (offeredAll (bestOf (c .before .seg-edges .result)) (edgeWitnesses (c .before .before .before .before .before .args .b) (c .before .before .before .before .before .args .c) (c .before .before .before .before .before .args .d) (c .before .before .before .before .before .args .e) (c .before .before .before .before .before .args .f)))
+second-offered c =
+    ⊎-elim
+    (λ w. rw (w .1) (record { same = sym (middle-edge (at-first (c .before)) (c .before .before .before .closes-ring .ensures (w .0 .taken))); sound = c .before .seg-edges .ensures .sound }))
+    (λ w. rw (w .2) (w .1 .ensures))
+    (c .if1 .came)
+
+at-second : (c : tie.Joined1) → SparedAt (c .before .before .before .before .before) (c .if1 .second)
+at-second c =
+    let s = c .before .before .before .before .before in
+    spared-after (at-first (c .before)) (edgeWitnesses (s .args .b) (s .args .c) (s .args .d) (s .args .e) (s .args .f)) (c .before .seg-edges .ensures .sound) (edges-distant _ _ _ _ _) (second-offered c)
+
+at-third : (c : tie.After-seg-edges3) → SparedAt (c .before .before .before .before .before .before) (c .seg-edges3 .result)
+at-third c =
+    let s = c .before .before .before .before .before .before in
+    spared-after (at-second (c .before)) (edgeWitnesses (s .args .c) (s .args .a) (s .args .d) (s .args .e) (s .args .f)) (second-offered (c .before) .sound) (edges-distant _ _ _ _ _) (c .seg-edges3 .ensures)
+
+at-vertices : (c : tie.After-vertices) → SparedAt (c .before .before .before .before .before .before .before) (c .vertices .result)
+at-vertices c =
+    let s = c .before .before .before .before .before .before .before in
+    spared-after (at-third (c .before)) (vertexWitnesses false (s .args .a) (s .args .b) (s .args .c) (s .args .d) (s .args .e) (s .args .f)) (c .before .seg-edges3 .ensures .sound) (vertices-distant false _ _ _ _ _ _) (c .vertices .ensures)
+
+-- ---- what is asked
 offered-requires : tie.Need-offered-requires
 offered-requires c κs = search needs
 
+closes-ring-requires : tie.Need-closes-ring-requires
+closes-ring-requires c κs = search needs
+
+closes-ring-requires-2 : tie.Need-closes-ring-requires-2
+closes-ring-requires-2 c κs = search needs
+
 seg-edges-requires : tie.Need-seg-edges-requires
-seg-edges-requires c κs = search needs
+seg-edges-requires c κs = (c .before .before .offered .ensures .sound, λ t. other-edge (at-start c) (c .closes-ring2 .ensures t) .0)
 
 seg-edges-requires-2 : tie.Need-seg-edges-requires-2
-seg-edges-requires-2 c κs = search needs
+seg-edges-requires-2 c κs = (c .before .seg-edges .ensures .sound, λ t. other-edge (at-first (c .before)) (c .before .before .closes-ring2 .ensures t) .1)
 
 seg-edges-requires-3 : tie.Need-seg-edges-requires-3
-seg-edges-requires-3 c κs = search needs
+seg-edges-requires-3 c κs = (second-offered c .sound, λ t. other-edge (at-second c) (c .before .before .closes-ring2 .ensures t) .2)
 
 vertices-requires : tie.Need-vertices-requires
-vertices-requires c κs = search needs
+vertices-requires c κs = (c .seg-edges3 .ensures .sound, first-vertices (at-third c))
 
 vertices-requires-2 : tie.Need-vertices-requires-2
-vertices-requires-2 c κs = search needs
+vertices-requires-2 c κs = (c .vertices .ensures .sound, second-vertices (at-vertices c))
 
 returns : tie.Need-returns
 unfolding div ofBits rootOf witnessOf infinitelyFar rooted
 returns c =
-    let start = c .before .before .before .before .before .before in
+    let s = c .before .before .before .before .before .before .before .before in
     rw (
-      triangles-offered (start .args .a) (start .args .b) (start .args .c) (start .args .d) (start .args .e) (start .args .f) (bestOf (start .args .best)) (sound-fits (start .args .best) (start .pre)),
-      ← c .before .before .before .before .before .offered .ensures .same,
+      triangles-offered (s .args .a) (s .args .b) (s .args .c) (s .args .d) (s .args .e) (s .args .f) (bestOf (s .args .best)) (sound-fits (s .args .best) (s .pre .0)),
+      ← c .before .before .before .before .before .before .before .offered .ensures .same,
       ← c .before .before .before .before .seg-edges .ensures .same,
-      ← c .before .before .before .seg-edges2 .ensures .same,
+      ← second-offered (c .before .before .before) .same,
       ← c .before .before .seg-edges3 .ensures .same,
       ← c .before .vertices .ensures .same,
     )
@@ -48,6 +103,8 @@ tri-tri-spec =
     tie.close
     (tie.spec
     offered-requires
+    closes-ring-requires
+    closes-ring-requires-2
     seg-edges-requires
     seg-edges-requires-2
     seg-edges-requires-3

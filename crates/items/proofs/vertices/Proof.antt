@@ -1,8 +1,11 @@
 -- `items::vertices` meets its contract. Assumes nothing.
+use mathlib.Core.Path.{refl}
 use borrow.Author.Needs.{needs}
 use lib.Ieee.{ofBits}
-use Rattle.items.specs.Inner.{vertexWitnesses}
-use Rattle.items.proofs.BestWitness.{zero-stays}
+use Rattle.items.specs.Inner.{bestOf, vertexWitnesses}
+use Rattle.items.specs.Repeats.{AllSettled}
+use Rattle.items.proofs.BestWitness.{sound-fits, zero-stays}
+use Rattle.items.proofs.Repeats.{again-later}
 use Rattle.items.proofs.TwoTriangles.{vertices-distant}
 use Rattle.items.proofs.vertices.Statement.{statement}
 use Rattle.items.proofs.vertices.Tie as tie
@@ -11,10 +14,26 @@ returns : tie.Need-returns
 unfolding ofBits
 returns c =
     let start = c .before .before in
-    zero-stays (start .args .best) (vertexWitnesses (start .args .flip) (start .args .a) (start .args .b) (start .args .c) (start .args .d) (start .args .e) (start .args .f)) (start .pre) (c .if1 .taken) (vertices-distant (start .args .flip) (start .args .a) (start .args .b) (start .args .c) (start .args .d) (start .args .e) (start .args .f))
+    zero-stays (start .args .best) (vertexWitnesses (start .args .flip) (start .args .a) (start .args .b) (start .args .c) (start .args .d) (start .args .e) (start .args .f)) (start .pre .0) (c .if1 .taken) (vertices-distant (start .args .flip) (start .args .a) (start .args .b) (start .args .c) (start .args .d) (start .args .e) (start .args .f))
+
+same-requires : tie.Need-same-requires
+same-requires c κs = search needs
+
+returns-2 : tie.Need-returns-2
+unfolding AllSettled
+returns-2 c =
+    let start = c .before .before .before .before .before in
+    let settled = start .pre .1 (c .before .before .if2 .taken) in
+    rw (settled .0, settled .1 .0, ← c .before .same .ensures (c .if3 .taken), settled .0) (record { same = refl; sound = start .pre .0 })
 
 pt-tri-requires : tie.Need-pt-tri-requires
 pt-tri-requires c κs = search needs
+
+returns-3 : tie.Need-returns-3
+unfolding AllSettled
+returns-3 c =
+    let settled = c .before .before .before .before .before .before .pre .1 (c .before .before .before .if2 .taken) in
+    rw (settled .0, settled .1 .0) (c .pt-tri .ensures)
 
 pt-tri-requires-2 : tie.Need-pt-tri-requires-2
 pt-tri-requires-2 c κs = search needs
@@ -22,9 +41,38 @@ pt-tri-requires-2 c κs = search needs
 pt-tri-requires-3 : tie.Need-pt-tri-requires-3
 pt-tri-requires-3 c κs = search needs
 
-returns-2 : tie.Need-returns-2
-returns-2 c = rw (← c .before .before .pt-tri .ensures .same, ← c .before .pt-tri2 .ensures .same) (c .pt-tri3 .ensures)
+same-requires-2 : tie.Need-same-requires-2
+same-requires-2 c κs = search needs
+
+returns-4 : tie.Need-returns-4
+returns-4 c =
+    let start = c .before .before .before .before .before .before .before in
+    let distant = vertices-distant (start .args .flip) (start .args .a) (start .args .b) (start .args .c) (start .args .d) (start .args .e) (start .args .f) in
+    rw (
+      ← c .before .same2 .ensures (c .if4 .taken),
+      again-later (bestOf (start .args .best)) _ _ (sound-fits (start .args .best) (start .pre .0)) (distant .0) (distant .1 .0),
+      ← c .before .before .before .pt-tri2 .ensures .same,
+    )
+    (c .before .before .pt-tri3 .ensures)
+
+pt-tri-requires-4 : tie.Need-pt-tri-requires-4
+pt-tri-requires-4 c κs = search needs
+
+returns-5 : tie.Need-returns-5
+returns-5 c = rw (← c .before .before .before .before .pt-tri2 .ensures .same, ← c .before .before .before .pt-tri3 .ensures .same) (c .pt-tri4 .ensures)
 
 pub vertices-spec : {M : Type 1} → statement M
 vertices-spec =
-    tie.close (tie.spec returns pt-tri-requires pt-tri-requires-2 pt-tri-requires-3 returns-2)
+    tie.close
+    (tie.spec
+    returns
+    same-requires
+    returns-2
+    pt-tri-requires
+    returns-3
+    pt-tri-requires-2
+    pt-tri-requires-3
+    same-requires-2
+    returns-4
+    pt-tri-requires-4
+    returns-5)
