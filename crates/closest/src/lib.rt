@@ -915,28 +915,80 @@ fn is_one_point(table: &[u32]) -> bool
     false
 }
 
+// Item a, whose box is given, with the items of a run of n points of B.
+fn with_run(
+    best: Best,
+    stop: bool,
+    a: Shape,
+    a_box: Aabb,
+    class: Class,
+    floats: &[f64],
+    at: usize,
+    n: usize,
+) -> Best
+    requires { ⌜ Sound best ⌝ }
+    requires { ⌜ «a_box» ≡ boxOfItem (itemOf a) ⌝ }
+    requires { ⌜ floatsPerCoordinate * (at + n) ≤ length (now floats) ⌝ }
+    ensures { λ r. ⌜ Keeps r (withEach (itemOf a) (bestOf best) (itemsBy class (pointsFrom (now (floats .entry)) at n))) ⌝ }
+{
+    let mut seen = best;
+    let count = items::item_count(class, n);
+    let mut j = 0;
+    while j < count {
+        if stops(stop, seen) {
+            return seen;
+        }
+        seen = with_item(seen, a, a_box, class, floats, at, n, j);
+        j += 1;
+    }
+    seen
+}
+
+// Item a, whose box is given, with the items of a class of B, run after run.
+fn with_class(
+    best: Best,
+    stop: bool,
+    a: Shape,
+    a_box: Aabb,
+    class: Class,
+    floats: &[f64],
+    table: &[u32],
+) -> Best
+    requires { ⌜ Sound best ⌝ }
+    requires { ⌜ «a_box» ≡ boxOfItem (itemOf a) ⌝ }
+    requires { ⌜ Laid (now table) (now floats) ⌝ }
+    ensures { λ r. ⌜ Keeps r (withEach (itemOf a) (bestOf best) (classItems class (storedRuns (now (table .entry)) (now (floats .entry))))) ⌝ }
+{
+    let mut seen = best;
+    let count = parts::run_count(table);
+    let mut at = 0;
+    let mut r = 0;
+    while r < count {
+        let n = parts::count_at(table, r);
+        if items::is_of_class(class, parts::kind_at(table, r)) {
+            seen = with_run(seen, stop, a, a_box, class, floats, at, n);
+        }
+        at += n;
+        r += 1;
+    }
+    seen
+}
+
 // The first point of A with all items of B: no box of B is needed.
-fn from_one_point(stop: bool, floats1: &[f64], floats2: &[f64], table2: &[u32], plan: Plan) -> Best
+fn from_one_point(stop: bool, floats1: &[f64], floats2: &[f64], table2: &[u32]) -> Best
     requires { ⌜ floatsPerCoordinate * (0 + 1) ≤ length (now floats1) ⌝ }
     requires { ⌜ Laid (now table2) (now floats2) ⌝ }
-    requires { ⌜ Uncut plan (now table2) (now floats2) ⌝ }
     ensures { λ r. ⌜ Keeps r (withEach (point (pointAt (now (floats1 .entry)) 0)) none (itemsOf (storedRuns (now (table2 .entry)) (now (floats2 .entry))))) ⌝ }
 {
+    let first = items::none_yet();
     let a = items::item_at(Class::Points, floats1, 0, 1, 0);
+    if is_one_point(table2) {
+        return items::offer(first, a, items::item_at(Class::Points, floats2, 0, 1, 0));
+    }
     let a_box = items::box_of(a);
-    let boxes = [0.0; 1];
-    let starts = [0usize; 1];
-    with_classes(
-        items::none_yet(),
-        stop,
-        a,
-        a_box,
-        floats2,
-        table2,
-        plan,
-        &boxes,
-        &starts,
-    )
+    let points = with_class(first, stop, a, a_box, Class::Points, floats2, table2);
+    let segments = with_class(points, stop, a, a_box, Class::Segments, floats2, table2);
+    with_class(segments, stop, a, a_box, Class::Triangles, floats2, table2)
 }
 
 // The best as an answer.
@@ -962,13 +1014,13 @@ pub fn closest(
     requires { ⌜ Laid (now table2) (now floats2) ⌝ }
     ensures { λ r. ⌜ r ≡ answerOf (closestOf (itemsOf (storedRuns (now (table1 .entry)) (now (floats1 .entry)))) (itemsOf (storedRuns (now (table2 .entry)) (now (floats2 .entry))))) ⌝ }
 {
-    let plan = plan_of(floats2, table2);
     if is_one_point(table1) {
-        return answered(from_one_point(stop_at_zero, floats1, floats2, table2, plan));
+        return answered(from_one_point(stop_at_zero, floats1, floats2, table2));
     }
     let bounds = box_all(floats2, table2);
     let all = bounds.all;
     if bounds.found {
+        let plan = plan_of(floats2, table2);
         if is_large(plan) {
             return answered(sweep_many(stop_at_zero, floats1, table1, floats2, table2, all, plan));
         }

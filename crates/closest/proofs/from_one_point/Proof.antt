@@ -1,39 +1,65 @@
 -- `closest::from_one_point` meets its contract. Assumes nothing.
+use mathlib.Core.Path.{sym, _∙_}
 use native.Mathlib.Omega.{arith}
 use borrow.Author.Needs.{needs}
+use Rattle.extremes.specs.Sweeps.{skipping}
+use Rattle.items.specs.Items.{itemsOf}
+use Rattle.closest.specs.Closest.{noCloser, withItem, withEach}
+use Rattle.closest.proofs.Folds.{each-append}
+use Rattle.closest.proofs.OnePoint.{one-item, one-laid}
 use Rattle.closest.proofs.from_one_point.Statement.{statement}
 use Rattle.closest.proofs.from_one_point.Tie as tie
-
-item-at-requires : tie.Need-item-at-requires
-item-at-requires c κs = (c .before .before .before .pre .0, omega arith)
-
-box-of-requires : tie.Need-box-of-requires
-box-of-requires c κs = search needs
 
 none-yet-requires : tie.Need-none-yet-requires
 none-yet-requires c κs = search needs
 
-slice-aggregate-with-classes : tie.Need-slice-aggregate-with-classes
-slice-aggregate-with-classes c = search needs
+item-at-requires : tie.Need-item-at-requires
+item-at-requires c κs = (c .before .before .before .before .pre .0, omega arith)
 
-slice-aggregate-with-classes-2 : tie.Need-slice-aggregate-with-classes-2
-slice-aggregate-with-classes-2 c = search needs
+is-one-point-requires : tie.Need-is-one-point-requires
+is-one-point-requires c κs = search needs
 
-with-classes-requires : tie.Need-with-classes-requires
-with-classes-requires c κs = let pre = c .before .before .before .before .before .before .before .before .pre in
-    (c .before .before .none-yet .ensures .sound, (c .before .before .before .box-of .ensures, (pre .1 .0, pre .1 .1 _ _)))
+item-at-requires-2 : tie.Need-item-at-requires-2
+item-at-requires-2 c κs = (one-laid (c .before .before .before .before .before .before .before .args .table2 .now) (sym (c .before .is-one-point .ensures) ∙ c .if1 .taken) (c .before .before .before .before .before .before .before .args .floats2 .now) (c .before .before .before .before .before .before .before .pre .1), omega arith)
+
+offer-requires : tie.Need-offer-requires
+offer-requires c κs = c .before .before .before .before .none-yet .ensures .sound
 
 returns : tie.Need-returns
-returns c = rw (← c .before .before .before .none-yet .ensures .same, ← c .before .before .before .before .before .item-at .ensures) (c .with-classes .ensures)
+unfolding withEach skipping noCloser withItem
+returns c = rw (one-item (c .before .before .before .before .before .before .before .before .before .args .table2 .now) (sym (c .before .before .before .is-one-point .ensures) ∙ c .before .before .if1 .taken) (c .before .before .before .before .before .before .before .before .before .args .floats2 .now), ← c .before .before .before .before .before .none-yet .ensures .same, ← c .before .before .before .before .item-at .ensures, ← c .before .item-at2 .ensures) (c .offer .ensures)
+
+box-of-requires : tie.Need-box-of-requires
+box-of-requires c κs = search needs
+
+with-class-requires : tie.Need-with-class-requires
+with-class-requires c κs = (c .before .before .before .before .none-yet .ensures .sound, (c .box-of .ensures, c .before .before .before .before .before .before .before .before .pre .1))
+
+with-class-requires-2 : tie.Need-with-class-requires-2
+with-class-requires-2 c κs = (c .with-class .ensures .sound, (c .before .box-of .ensures, c .before .before .before .before .before .before .before .before .before .pre .1))
+
+with-class-requires-3 : tie.Need-with-class-requires-3
+with-class-requires-3 c κs = (c .with-class2 .ensures .sound, (c .before .before .box-of .ensures, c .before .before .before .before .before .before .before .before .before .before .pre .1))
+
+returns-2 : tie.Need-returns-2
+unfolding itemsOf
+returns-2 c = record {
+  same = rw (c .with-class3 .ensures .same, c .before .with-class2 .ensures .same, c .before .before .with-class .ensures .same, c .before .before .before .before .before .before .before .none-yet .ensures .same, c .before .before .before .before .before .before .item-at .ensures) (each-append _ _ _ _ ∙ each-append _ _ _ _);
+  sound = c .with-class3 .ensures .sound;
+}
 
 pub from-one-point-spec : {M : Type 1} → statement M
 from-one-point-spec =
     tie.close
     (tie.spec
-    item-at-requires
-    box-of-requires
     none-yet-requires
-    slice-aggregate-with-classes
-    slice-aggregate-with-classes-2
-    with-classes-requires
-    returns)
+    item-at-requires
+    is-one-point-requires
+    item-at-requires-2
+    offer-requires
+    returns
+    box-of-requires
+    with-class-requires
+    with-class-requires-2
+    with-class-requires-3
+    returns-2)
