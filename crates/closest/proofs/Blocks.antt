@@ -1,5 +1,5 @@
--- Boxes and cursors in a row; one block more; a block that is passed over, or gone through. Assumes nothing.
-use mathlib.Core.Path.{_≡_, refl, sym, ap, _∙_, subst}
+-- Cursors in a row; one block more; a block that is passed over, or gone through. Assumes nothing.
+use mathlib.Core.Path.{_≡_, sym, ap, _∙_, subst}
 use mathlib.Core.Bool.{Bool, true, false, cond}
 use mathlib.Core.List.{List, [], _∷_, _++_}
 use mathlib.Core.Option.{Option}
@@ -9,8 +9,8 @@ use native.Mathlib.Numerals.{add-one-le}
 use native.Mathlib.Omega.{arith}
 use borrow.Author.Count.{below-more}
 use lib.Dec.{T}
-use lib.ListN.{length, getD, set, take, drop, take-append-drop, drop-of-length-le}
-use lib.Seq.{sets, drop-drop, getD-set-other}
+use lib.ListN.{length, getD, take, drop, take-append-drop, drop-of-length-le}
+use lib.Seq.{sets, drop-drop}
 use lib.Ieee.{Float, nan, binary64, fits}
 use Rattle.fields.proofs.Stores.{getD-sets}
 use Rattle.parts.specs.Stored.{pointsFrom, runsFrom, storedRuns, Laid}
@@ -25,10 +25,12 @@ use Rattle.items.specs.Items.{Item, itemsOfKind, boxOfItem}
 use Rattle.items.specs.Inner.{isOfClass, itemsBy, classItems}
 use Rattle.items.specs.declared.Class.{Class}
 use Rattle.items.specs.declared.Class.the-variants.{Points, Segments, Triangles}
+use Rattle.listing.specs.Rows.{floatsPerBox, boxFloats}
+use Rattle.listing.proofs.Rows.{sets-before, box-put, box-kept}
 use Rattle.closest.specs.Closest.{noCloser, withEach}
 use Rattle.closest.specs.Cover.{coverOfItems}
 use Rattle.closest.specs.Spans.{itemsPast, itemTotal, Reaches, Spanned}
-use Rattle.closest.specs.Blocks.{floatsPerBox, numbersPerCursor, boxFloats, cursorNumbers, boxAt, cursorAt, Blocks, Describes, Plans, planWith}
+use Rattle.closest.specs.Blocks.{numbersPerCursor, cursorNumbers, cursorAt, Blocks, Describes, Plans, planWith}
 use Rattle.closest.specs.declared.Cursor.{Cursor}
 use Rattle.closest.specs.declared.Span.{Span}
 use Rattle.closest.specs.declared.Part.{Part}
@@ -38,29 +40,7 @@ use Rattle.closest.proofs.ItemBoxes.{run-fitting, stored-binary64}
 use Rattle.closest.proofs.Folds.{each-append}
 use Rattle.closest.proofs.Spans.{length-total}
 
--- ---- boxes and cursors in a row
--- what stands before a row of stores stays
-sets-before : {A : Type 0} (vs l : List A) (i j : ℕ) (d : A) → j < i → getD (sets l i vs) j d ≡ getD l j d
-sets-before [] l i j d h = refl
-sets-before (a ∷ vs) l i j d h = sets-before vs (set l i a) (suc i) j d (omega arith) ∙ getD-set-other l i j a d (λ e. absurd (omega arith))
-
-module _ (boxes : List Float) (k : ℕ) (b : Aabb) where
-  abbrev boxes′ : List Float
-  boxes′ = sets boxes (floatsPerBox * k) (boxFloats b)
-
-  box-put : floatsPerBox * (k + 1) ≤ length boxes → boxAt boxes′ k ≡ b
-  unfolding boxAt
-  box-put h =
-      let e : floatsPerBox * k + 0 ≡ floatsPerBox * k = omega arith in
-      let at : (i : ℕ) → i < 6 → getD boxes′ (floatsPerBox * k + i) nan ≡ getD (boxFloats b) i nan = λ i g. getD-sets (boxFloats b) boxes (floatsPerBox * k) i nan (omega arith) g in
-      rw (rw e at (at 0 (omega arith)), at 1 (omega arith), at 2 (omega arith), at 3 (omega arith), at 4 (omega arith), at 5 (omega arith))
-
-  box-kept : (m : ℕ) → m < k → boxAt boxes′ m ≡ boxAt boxes m
-  unfolding boxAt
-  box-kept m h =
-      let at : (i : ℕ) → i < floatsPerBox * k → getD boxes′ i nan ≡ getD boxes i nan = λ i g. sets-before (boxFloats b) boxes (floatsPerBox * k) i nan g in
-      rw (at (floatsPerBox * m) (omega arith), at (floatsPerBox * m + 1) (omega arith), at (floatsPerBox * m + 2) (omega arith), at (floatsPerBox * m + 3) (omega arith), at (floatsPerBox * m + 4) (omega arith), at (floatsPerBox * m + 5) (omega arith))
-
+-- ---- cursors in a row
 module _ (starts : List ℕ) (k : ℕ) (c : Cursor) where
   abbrev starts′ : List ℕ
   starts′ = sets starts (numbersPerCursor * k) (cursorNumbers c)
@@ -181,6 +161,6 @@ pub plans-with : (plan : Plan) (part : Part) {class : Class} {table : List ℕ} 
 plans-with plan part {class} {table} {floats} {boxes} {starts} p d = subst (λ (k : Class). Plans (planWith k plan part) table floats boxes starts) (sym (d .class-is)) (go class d)
   where
     go : (k : Class) → Describes part k table floats boxes starts → Plans (planWith k plan part) table floats boxes starts
-    go Points e = record { points = e; segments = p .segments; triangles = p .triangles }
-    go Segments e = record { points = p .points; segments = e; triangles = p .triangles }
-    go Triangles e = record { points = p .points; segments = p .segments; triangles = e }
+    go Points e = record { unlisted = p .unlisted; points = e; segments = p .segments; triangles = p .triangles }
+    go Segments e = record { unlisted = p .unlisted; points = p .points; segments = e; triangles = p .triangles }
+    go Triangles e = record { unlisted = p .unlisted; points = p .points; segments = p .segments; triangles = e }

@@ -7,3 +7,4 @@ pub mod ItemBoxes
 pub mod Covering
 pub mod Blocks
 pub mod OnePoint
+pub mod Known

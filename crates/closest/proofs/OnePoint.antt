@@ -1,19 +1,19 @@
 -- A side that is one point: its items, and the sweep from it, which needs no box. Assumes nothing.
-use mathlib.Core.Path.{_≡_, refl, ap, _∙_}
+use mathlib.Core.Path.{_≡_, refl, _∙_}
 use mathlib.Core.Bool.{Bool, true, false, _&&_, false≢true}
 use mathlib.Core.List.{List, [], _∷_, foldl}
 use mathlib.Core.Option.{none, some}
-use Prim.Native.Nat.{ℕ, _+_, _*_, _<_, _≤_}
+use Prim.Native.Nat.{ℕ, _+_, _*_, _≤_}
 use native.Mathlib.Omega.{arith}
 use borrow.Author.Tests.{eqb-true}
 use lib.Dec.{eqb}
-use lib.ListN.{length, drop}
+use lib.ListN.{length}
 use lib.Ieee.{Float}
-use Rattle.workspace.specs.Workspace.{floatsPerCoordinate, numbersPerRun}
-use Rattle.coords.specs.Parts.{Run, run}
+use Rattle.workspace.specs.Workspace.{floatsPerCoordinate}
+use Rattle.coords.specs.Parts.{run}
 use Rattle.primitives.specs.declared.Aabb.{Aabb}
-use Rattle.parts.specs.Stored.{pointAt, pointsFrom, runsFrom, storedRuns, runCount, kindAt, countAt, Laid}
-use Rattle.parts.proofs.Turns.{runs-next, runs-none, points-next, points-none, count-next}
+use Rattle.parts.specs.Stored.{pointAt, pointsFrom, storedRuns, runCount, kindAt, countAt, Laid}
+use Rattle.parts.proofs.Turns.{runs-next, runs-none, count-next}
 use Rattle.primitives.specs.Boxes.{unionOf}
 use Rattle.items.specs.Items.{Item, point, pointsOf, itemsOfKind, itemsOf, boxOfItem}
 use Rattle.extremes.specs.Sweeps.{skipping}

@@ -3,45 +3,26 @@ use Prim.Native.Nat.{ℕ, _+_, _*_, _<_, _≤_}
 use mathlib.Core.Path.{_≡_}
 use mathlib.Core.List.{List, [], _∷_}
 use lib.ListN.{length, getD, take, drop}
-use lib.Ieee.{Float, nan}
+use lib.Ieee.{Float}
 use Rattle.parts.specs.Stored.{storedRuns}
-use Rattle.primitives.specs.declared.Aabb.{Aabb}
 use Rattle.items.specs.Inner.{classItems}
 use Rattle.items.specs.declared.Class.{Class}
 use Rattle.items.specs.declared.Class.the-variants.{Points, Segments, Triangles}
+use Rattle.listing.specs.Rows.{floatsPerBox, boxAt}
 use Rattle.closest.specs.Cover.{coverOfItems}
 use Rattle.closest.specs.Spans.{itemTotal, Reaches}
 use Rattle.closest.specs.declared.Cursor.{Cursor}
 use Rattle.closest.specs.declared.Part.{Part}
 use Rattle.closest.specs.declared.Plan.{Plan}
 
--- ---- boxes and cursors in a row
-
-abbrev pub floatsPerBox : ℕ
-floatsPerBox = 6
+-- ---- cursors in a row
 
 abbrev pub numbersPerCursor : ℕ
 numbersPerCursor = 3
 
--- the floats of a box
-abbrev pub boxFloats : Aabb → List Float
-boxFloats b = b .«lo_x» ∷ b .«lo_y» ∷ b .«lo_z» ∷ b .«hi_x» ∷ b .«hi_y» ∷ b .«hi_z» ∷ []
-
 -- the numbers of a cursor
 abbrev pub cursorNumbers : Cursor → List ℕ
 cursorNumbers cursor = cursor .r ∷ cursor .at ∷ cursor .j ∷ []
-
--- the k-th box
-unfoldable pub boxAt : List Float → ℕ → Aabb
-boxAt boxes k =
-    record {
-      «lo_x» = getD boxes (floatsPerBox * k) nan;
-      «lo_y» = getD boxes (floatsPerBox * k + 1) nan;
-      «lo_z» = getD boxes (floatsPerBox * k + 2) nan;
-      «hi_x» = getD boxes (floatsPerBox * k + 3) nan;
-      «hi_y» = getD boxes (floatsPerBox * k + 4) nan;
-      «hi_z» = getD boxes (floatsPerBox * k + 5) nan;
-    }
 
 -- the k-th cursor
 unfoldable pub cursorAt : List ℕ → ℕ → Cursor
@@ -78,8 +59,9 @@ pub record Describes (part : Part) (class : Class) (table : List ℕ) (floats : 
   pub total-is : part .total ≡ itemTotal class table
   pub cut : 0 < part .used → Cut (part .used) (part .size) class table floats boxes starts
 
--- the parts are of the classes in order
+-- no item is listed, and the parts are of the classes in order
 pub record Plans (plan : Plan) (table : List ℕ) (floats : List Float) (boxes : List Float) (starts : List ℕ) : Type 0 where
+  pub unlisted : plan .listed ≡ 0
   pub points : Describes (plan .points) Points table floats boxes starts
   pub segments : Describes (plan .segments) Segments table floats boxes starts
   pub triangles : Describes (plan .triangles) Triangles table floats boxes starts
@@ -90,6 +72,6 @@ Uncut plan table floats = (boxes : List Float) (starts : List ℕ) → Plans pla
 
 -- the plan with another part for the part's class
 abbrev pub planWith : Class → Plan → Part → Plan
-planWith Points plan part = record { points = part; segments = plan .segments; triangles = plan .triangles }
-planWith Segments plan part = record { points = plan .points; segments = part; triangles = plan .triangles }
-planWith Triangles plan part = record { points = plan .points; segments = plan .segments; triangles = part }
+planWith Points plan part = record { listed = plan .listed; points = part; segments = plan .segments; triangles = plan .triangles }
+planWith Segments plan part = record { listed = plan .listed; points = plan .points; segments = part; triangles = plan .triangles }
+planWith Triangles plan part = record { listed = plan .listed; points = plan .points; segments = plan .segments; triangles = part }

@@ -3,3 +3,4 @@ pub mod Inner
 pub mod Spans
 pub mod Cover
 pub mod Blocks
+pub mod Known

@@ -3,37 +3,34 @@ use items::Best;
 use items::Class;
 use items::Shape;
 use primitives::Aabb;
-use primitives::Point;
 use primitives::Witness;
 ghost use mathlib.Core.Path.{_≡_};
-ghost use mathlib.Core.Bool.{_&&_, cond};
-ghost use mathlib.Core.List.{List, foldl};
+ghost use mathlib.Core.Bool.{true, false, _&&_, cond};
+ghost use mathlib.Core.List.{List};
 ghost use mathlib.Core.Option.{none};
 ghost use Prim.Native.Nat.{ℕ, _+_, _*_, _<_, _≤_};
-ghost use lib.ListN.{length, take};
+ghost use lib.ListN.{length, getD, take};
 ghost use lib.Seq.{sets};
 ghost use lib.Ieee.{Float};
 ghost use Rattle.primitives.specs.Boxes.{leastSquaredGap};
 ghost use Rattle.workspace.specs.Workspace.{floatsPerCoordinate};
 ghost use Rattle.parts.specs.Stored.{pointAt, pointsFrom, storedRuns, runCount, Laid};
 ghost use Rattle.items.specs.Items.{point, itemsOf, boxOfItem};
+ghost use Rattle.items.specs.Repeats.{AllSettled, firstBefore, firstAfter};
 ghost use Rattle.items.specs.Inner.{itemOf, itemCount, itemAt, itemsBy, classItems, bestOf, Sound, Keeps};
-ghost use Rattle.closest.specs.Closest.{uniteItem, boxOfItems, noCloser, withItem, withEach, sweepOf, closestOf, answerOf};
-ghost use Rattle.closest.specs.Inner.{boundsOf, atZero};
+ghost use Rattle.listing.specs.Rows.{floatsPerBox, numbersPerPlace, placeAt};
+ghost use Rattle.listing.specs.Listing.{RoomAt, listedItem, listedFrom};
+ghost use Rattle.closest.specs.Closest.{noCloser, withItem, withEach, sweepOf, closestOf, answerOf};
+ghost use Rattle.closest.specs.Inner.{atZero};
 ghost use Rattle.closest.specs.Spans.{isOnePoint, itemsIn, itemsPast, RoomPast, itemTotal, Spanned};
 ghost use Rattle.closest.specs.Cover.{lowerOf, upperOf, coverOf, emptyCover};
-ghost use Rattle.closest.specs.Blocks.{floatsPerBox, numbersPerCursor, boxFloats, cursorNumbers, boxAt, cursorAt, Blocks, Cut, Describes, Plans, Uncut, planWith};
+ghost use Rattle.closest.specs.Blocks.{numbersPerCursor, cursorNumbers, cursorAt, Blocks, Cut, Describes, Plans, Uncut, planWith};
+ghost use Rattle.closest.specs.Known.{HasEntries, Indexed, Known, MeasuredBefore, Follows};
 
 // The closest pair of points, if both sides have an item.
 pub enum ClosestPair {
     Nothing,
     Found(Witness),
-}
-
-// The box of some items, if there is one.
-pub struct Bounds {
-    pub found: bool,
-    pub all: Aabb,
 }
 
 // Where items of a class start: those of run r and on, whose points start at place at, but for the first j.
@@ -57,8 +54,9 @@ pub struct Part {
     pub size: usize,
 }
 
-// The classes of a side.
+// The items of a side: so many are listed, or if that is 0, those of its classes.
 pub struct Plan {
+    pub listed: usize,
     pub points: Part,
     pub segments: Part,
     pub triangles: Part,
@@ -66,9 +64,6 @@ pub struct Plan {
 
 // At most so many blocks.
 const BLOCKS: usize = 128;
-
-// From so many items on, a class is cut into blocks.
-const MANY: usize = 32;
 
 // 1 - 2^-49
 const SLACK: f64 = 0.99999999999999822364316059975;
@@ -288,22 +283,6 @@ fn cover_span(class: Class, floats: &[f64], table: &[u32], from: Cursor, count: 
     }
 }
 
-// The k-th box.
-fn box_at(boxes: &[f64], k: usize) -> Aabb
-    requires { ⌜ floatsPerBox * (k + 1) ≤ length (now boxes) ⌝ }
-    ensures { λ b. ⌜ b ≡ boxAt (now (boxes .entry)) k ⌝ }
-{
-    let i = 6 * k;
-    Aabb {
-        lo_x: boxes[i],
-        lo_y: boxes[i + 1],
-        lo_z: boxes[i + 2],
-        hi_x: boxes[i + 3],
-        hi_y: boxes[i + 4],
-        hi_z: boxes[i + 5],
-    }
-}
-
 // The k-th cursor.
 fn cursor_at(starts: &[usize], k: usize) -> Cursor
     requires { ⌜ numbersPerCursor * (k + 1) ≤ length (now starts) ⌝ }
@@ -315,20 +294,6 @@ fn cursor_at(starts: &[usize], k: usize) -> Cursor
         at: starts[i + 1],
         j: starts[i + 2],
     }
-}
-
-// A box as the k-th.
-fn put_box(boxes: &mut [f64], k: usize, b: Aabb)
-    requires { ⌜ floatsPerBox * (k + 1) ≤ length (now boxes) ⌝ }
-    ensures { λ _. ⌜ now (boxes .exit) ≡ sets (now (boxes .entry)) (floatsPerBox * k) (boxFloats b) ⌝ }
-{
-    let i = 6 * k;
-    boxes[i] = b.lo_x;
-    boxes[i + 1] = b.lo_y;
-    boxes[i + 2] = b.lo_z;
-    boxes[i + 3] = b.hi_x;
-    boxes[i + 4] = b.hi_y;
-    boxes[i + 5] = b.hi_z;
 }
 
 // A cursor as the k-th.
@@ -362,7 +327,7 @@ fn fill_blocks(
     while k < used {
         let span = cover_span(class, floats, table, next, size);
         put_cursor(starts, k, next);
-        put_box(boxes, k, span.all);
+        listing::put_box(boxes, k, span.all);
         next = span.next;
         k += 1;
     }
@@ -412,6 +377,7 @@ fn plan_of(floats: &[f64], table: &[u32]) -> Plan
     ensures { λ p. ⌜ Uncut p (now (table .entry)) (now (floats .entry)) ⌝ }
 {
     Plan {
+        listed: 0,
         points: part_of(Class::Points, floats, table),
         segments: part_of(Class::Segments, floats, table),
         triangles: part_of(Class::Triangles, floats, table),
@@ -444,7 +410,7 @@ fn with_blocks(
         if stops(stop, seen) {
             return seen;
         }
-        if no_closer(seen, a_box.min_dist_sq(box_at(boxes, k))) {} else {
+        if no_closer(seen, a_box.min_dist_sq(listing::box_at(boxes, k))) {} else {
             seen = with_span(
                 seen,
                 stop,
@@ -545,6 +511,91 @@ fn with_classes(
     )
 }
 
+// Whether the item at the k-th place is the next of its run after the one before it, which was measured.
+fn follows(measured: bool, places: &[usize], k: usize) -> bool
+    requires { ⌜ (measured ≡ true → 0 < k) ⌝ }
+    requires { ⌜ numbersPerPlace * (k + 1) ≤ length (now places) ⌝ }
+    ensures { λ r. ⌜ (r ≡ true → (measured ≡ true) × Follows (now (places .entry)) k) ⌝ }
+{
+    if measured {
+        let i = 3 * k;
+        let j = places[i + 2];
+        if 0 < j {
+            if places[i] == places[i - 3] {
+                if places[i + 1] == places[i - 2] {
+                    return j - 1 == places[i - 1];
+                }
+            }
+        }
+    }
+    false
+}
+
+// Item a with the item at the k-th place; known: the item before a was measured with that item; measured: a was measured with the item before that.
+fn with_entry(
+    best: Best,
+    a: Shape,
+    floats: &[f64],
+    places: &[usize],
+    k: usize,
+    known: bool,
+    measured: bool,
+) -> Best
+    requires { ⌜ Sound best ⌝ }
+    requires { ⌜ (numbersPerPlace * (k + 1) ≤ length (now places)) × RoomAt (now floats) (placeAt (now places) k) ⌝ }
+    requires { ⌜ (known ≡ true → AllSettled (bestOf best) (firstBefore (itemOf a) (listedItem (now floats) (now places) k))) ⌝ }
+    requires { ⌜ (measured ≡ true → MeasuredBefore (itemOf a) (bestOf best) k (now floats) (now places)) ⌝ }
+    ensures { λ r. ⌜ Keeps r (withItem (itemOf a) (bestOf best) (listedItem (now (floats .entry)) (now (places .entry)) k)) ⌝ }
+{
+    let place = listing::place_at(places, k);
+    let again = follows(measured, places, k);
+    items::offer(best, a, listing::shape_at(floats, place), known, again)
+}
+
+// Item a, whose box is given, with the listed items; known: which of them the item before a was measured with, and then a.
+fn with_list(
+    best: Best,
+    stop: bool,
+    a: Shape,
+    a_box: Aabb,
+    floats: &[f64],
+    count: usize,
+    boxes: &[f64],
+    places: &[usize],
+    known: &mut [bool; 16],
+) -> Best
+    requires { ⌜ Sound best ⌝ }
+    requires { ⌜ «a_box» ≡ boxOfItem (itemOf a) ⌝ }
+    requires { ⌜ HasEntries count (now floats) (now boxes) (now places) ⌝ }
+    requires { ⌜ Known (firstBefore (itemOf a)) (bestOf best) (now known) count (now floats) (now places) ⌝ }
+    ensures { λ r. ⌜ Keeps r (withEach (itemOf a) (bestOf best) (listedFrom (now (floats .entry)) (now (places .entry)) 0 count)) ⌝ }
+    ensures { λ r. ⌜ Known (firstAfter (itemOf a)) (bestOf r) (now (known .exit)) count (now (floats .entry)) (now (places .entry)) ⌝ }
+{
+    let mut seen = best;
+    let mut measured = false;
+    let mut k = 0;
+    while k < count {
+        if stops(stop, seen) {
+            return seen;
+        }
+        let far = no_closer(seen, a_box.min_dist_sq(listing::box_at(boxes, k)));
+        if far {} else {
+            seen = with_entry(seen, a, floats, places, k, known[k], measured);
+        }
+        measured = !far;
+        known[k] = measured;
+        k += 1;
+    }
+    seen
+}
+
+// Nothing is known of any listed item.
+fn forget(known: &mut [bool; 16])
+    ensures { λ _. ⌜ ((k : ℕ) → getD (now (known .exit)) k false ≡ false) ⌝ }
+{
+    *known = [false; 16];
+}
+
 // Item a with all items of B, unless it is skipped against the box of all of them.
 fn with_all(
     best: Best,
@@ -556,15 +607,23 @@ fn with_all(
     plan: Plan,
     boxes: &[f64],
     starts: &[usize],
+    known: &mut [bool; 16],
 ) -> Best
     requires { ⌜ Sound best ⌝ }
     requires { ⌜ Laid (now table) (now floats) ⌝ }
-    requires { ⌜ Plans plan (now table) (now floats) (now boxes) (now starts) ⌝ }
+    requires { ⌜ Indexed plan (now table) (now floats) (now boxes) (now starts) ⌝ }
+    requires { ⌜ Known (firstBefore (itemOf a)) (bestOf best) (now known) (plan .listed) (now floats) (now starts) ⌝ }
     ensures { λ r. ⌜ Keeps r (cond (noCloser (bestOf best) (leastSquaredGap (boxOfItem (itemOf a)) all)) (bestOf best) (withEach (itemOf a) (bestOf best) (itemsOf (storedRuns (now (table .entry)) (now (floats .entry)))))) ⌝ }
+    ensures { λ r. ⌜ Known (firstAfter (itemOf a)) (bestOf r) (now (known .exit)) (plan .listed) (now (floats .entry)) (now (starts .entry)) ⌝ }
 {
     let a_box = items::box_of(a);
     if no_closer(best, a_box.min_dist_sq(all)) {
+        forget(known);
         return best;
+    }
+    let listed = plan.listed;
+    if 0 < listed {
+        return with_list(best, stop, a, a_box, floats, listed, boxes, starts, known);
     }
     with_classes(best, stop, a, a_box, floats, table, plan, boxes, starts)
 }
@@ -587,10 +646,11 @@ fn from_run(
     requires { ⌜ Sound best ⌝ }
     requires { ⌜ floatsPerCoordinate * (at + n) ≤ length (now floats1) ⌝ }
     requires { ⌜ Laid (now table2) (now floats2) ⌝ }
-    requires { ⌜ Plans plan (now table2) (now floats2) (now boxes) (now starts) ⌝ }
+    requires { ⌜ Indexed plan (now table2) (now floats2) (now boxes) (now starts) ⌝ }
     ensures { λ r. ⌜ Keeps r (sweepOf all (itemsOf (storedRuns (now (table2 .entry)) (now (floats2 .entry)))) (bestOf best) (itemsBy class (pointsFrom (now (floats1 .entry)) at n))) ⌝ }
 {
     let mut seen = best;
+    let mut known = [false; 16];
     let count = items::item_count(class, n);
     let mut j = 0;
     while j < count {
@@ -607,6 +667,7 @@ fn from_run(
             plan,
             boxes,
             starts,
+            &mut known,
         );
         j += 1;
     }
@@ -630,7 +691,7 @@ fn from_class(
     requires { ⌜ Sound best ⌝ }
     requires { ⌜ Laid (now table1) (now floats1) ⌝ }
     requires { ⌜ Laid (now table2) (now floats2) ⌝ }
-    requires { ⌜ Plans plan (now table2) (now floats2) (now boxes) (now starts) ⌝ }
+    requires { ⌜ Indexed plan (now table2) (now floats2) (now boxes) (now starts) ⌝ }
     ensures { λ r. ⌜ Keeps r (sweepOf all (itemsOf (storedRuns (now (table2 .entry)) (now (floats2 .entry)))) (bestOf best) (classItems class (storedRuns (now (table1 .entry)) (now (floats1 .entry))))) ⌝ }
 {
     let mut seen = best;
@@ -677,7 +738,7 @@ fn sweep(
     requires { ⌜ Sound best ⌝ }
     requires { ⌜ Laid (now table1) (now floats1) ⌝ }
     requires { ⌜ Laid (now table2) (now floats2) ⌝ }
-    requires { ⌜ Plans plan (now table2) (now floats2) (now boxes) (now starts) ⌝ }
+    requires { ⌜ Indexed plan (now table2) (now floats2) (now boxes) (now starts) ⌝ }
     ensures { λ r. ⌜ Keeps r (sweepOf all (itemsOf (storedRuns (now (table2 .entry)) (now (floats2 .entry)))) (bestOf best) (itemsOf (storedRuns (now (table1 .entry)) (now (floats1 .entry))))) ⌝ }
 {
     let points = from_class(
@@ -721,78 +782,6 @@ fn sweep(
     )
 }
 
-// The box of the items so far, with one more in it.
-fn unite(bounds: Bounds, item: Shape) -> Bounds
-    ensures { λ r. ⌜ boundsOf r ≡ uniteItem (boundsOf bounds) (itemOf item) ⌝ }
-{
-    let all = bounds.all;
-    let one = items::box_of(item);
-    if bounds.found {
-        return Bounds {
-            found: true,
-            all: all.union(one),
-        };
-    }
-    Bounds {
-        found: true,
-        all: one,
-    }
-}
-
-// The box with the items of a run of n points in it.
-fn box_run(bounds: Bounds, class: Class, floats: &[f64], at: usize, n: usize) -> Bounds
-    requires { ⌜ floatsPerCoordinate * (at + n) ≤ length (now floats) ⌝ }
-    ensures { λ r. ⌜ boundsOf r ≡ foldl uniteItem (boundsOf bounds) (itemsBy class (pointsFrom (now (floats .entry)) at n)) ⌝ }
-{
-    let mut seen = bounds;
-    let count = items::item_count(class, n);
-    let mut j = 0;
-    while j < count {
-        seen = unite(seen, items::item_at(class, floats, at, n, j));
-        j += 1;
-    }
-    seen
-}
-
-// The box with the items of a class in it.
-fn box_class(bounds: Bounds, class: Class, floats: &[f64], table: &[u32]) -> Bounds
-    requires { ⌜ Laid (now table) (now floats) ⌝ }
-    ensures { λ r. ⌜ boundsOf r ≡ foldl uniteItem (boundsOf bounds) (classItems class (storedRuns (now (table .entry)) (now (floats .entry)))) ⌝ }
-{
-    let mut seen = bounds;
-    let count = parts::run_count(table);
-    let mut at = 0;
-    let mut r = 0;
-    while r < count {
-        let n = parts::count_at(table, r);
-        if items::is_of_class(class, parts::kind_at(table, r)) {
-            seen = box_run(seen, class, floats, at, n);
-        }
-        at += n;
-        r += 1;
-    }
-    seen
-}
-
-// The box of all items of a side.
-fn box_all(floats: &[f64], table: &[u32]) -> Bounds
-    requires { ⌜ Laid (now table) (now floats) ⌝ }
-    ensures { λ r. ⌜ boundsOf r ≡ boxOfItems (itemsOf (storedRuns (now (table .entry)) (now (floats .entry)))) ⌝ }
-{
-    let origin = Point {
-        x: 0.0,
-        y: 0.0,
-        z: 0.0,
-    };
-    let empty = Bounds {
-        found: false,
-        all: Aabb::point(origin),
-    };
-    let points = box_class(empty, Class::Points, floats, table);
-    let segments = box_class(points, Class::Segments, floats, table);
-    box_class(segments, Class::Triangles, floats, table)
-}
-
 // The class that has the most items.
 fn largest(plan: Plan) -> Class {
     if plan.triangles.total < plan.points.total {
@@ -807,31 +796,30 @@ fn largest(plan: Plan) -> Class {
     Class::Triangles
 }
 
-// Whether a class has many items.
-fn is_large(plan: Plan) -> bool {
-    MANY <= plan.points.total || MANY <= plan.segments.total || MANY <= plan.triangles.total
-}
-
 // The plan with another part for the part's class.
 fn plan_with(plan: Plan, part: Part) -> Plan
     ensures { λ r. ⌜ r ≡ planWith (part .class) plan part ⌝ }
 {
     let class = part.class;
+    let listed = plan.listed;
     let points = plan.points;
     let segments = plan.segments;
     let triangles = plan.triangles;
     match class {
         Class::Points => Plan {
+            listed,
             points: part,
             segments,
             triangles,
         },
         Class::Segments => Plan {
+            listed,
             points,
             segments: part,
             triangles,
         },
         Class::Triangles => Plan {
+            listed,
             points,
             segments,
             triangles: part,
@@ -839,38 +827,25 @@ fn plan_with(plan: Plan, part: Part) -> Plan
     }
 }
 
-// The sweep where B has few items of each class: none is cut.
-fn sweep_few(
-    stop: bool,
-    floats1: &[f64],
-    table1: &[u32],
-    floats2: &[f64],
-    table2: &[u32],
-    all: Aabb,
-    plan: Plan,
-) -> Best
-    requires { ⌜ Laid (now table1) (now floats1) ⌝ }
-    requires { ⌜ Laid (now table2) (now floats2) ⌝ }
-    requires { ⌜ Uncut plan (now table2) (now floats2) ⌝ }
-    ensures { λ r. ⌜ Keeps r (sweepOf all (itemsOf (storedRuns (now (table2 .entry)) (now (floats2 .entry)))) none (itemsOf (storedRuns (now (table1 .entry)) (now (floats1 .entry))))) ⌝ }
+// A plan of so many listed items: its parts are not looked at.
+fn listed_plan(listed: usize) -> Plan
+    ensures { λ p. ⌜ p .listed ≡ listed ⌝ }
 {
-    let boxes = [0.0; 1];
-    let starts = [0usize; 1];
-    sweep(
-        items::none_yet(),
-        stop,
-        floats1,
-        table1,
-        floats2,
-        table2,
-        all,
-        plan,
-        &boxes,
-        &starts,
-    )
+    let part = Part {
+        class: Class::Points,
+        total: 0,
+        used: 0,
+        size: 0,
+    };
+    Plan {
+        listed,
+        points: part,
+        segments: part,
+        triangles: part,
+    }
 }
 
-// The sweep where B has many: its largest class is cut.
+// The sweep where B has many items: its largest class is cut.
 fn sweep_many(
     stop: bool,
     floats1: &[f64],
@@ -878,13 +853,12 @@ fn sweep_many(
     floats2: &[f64],
     table2: &[u32],
     all: Aabb,
-    plan: Plan,
 ) -> Best
     requires { ⌜ Laid (now table1) (now floats1) ⌝ }
     requires { ⌜ Laid (now table2) (now floats2) ⌝ }
-    requires { ⌜ Uncut plan (now table2) (now floats2) ⌝ }
     ensures { λ r. ⌜ Keeps r (sweepOf all (itemsOf (storedRuns (now (table2 .entry)) (now (floats2 .entry)))) none (itemsOf (storedRuns (now (table1 .entry)) (now (floats1 .entry))))) ⌝ }
 {
+    let plan = plan_of(floats2, table2);
     let mut boxes = [0.0; 768];
     let mut starts = [0usize; 384];
     let part = cut_part(largest(plan), floats2, table2, &mut boxes, &mut starts);
@@ -901,6 +875,37 @@ fn sweep_many(
         &boxes,
         &starts,
     )
+}
+
+// All items of A, each with all items of B, which are listed if they are few.
+fn from_all(stop: bool, floats1: &[f64], table1: &[u32], floats2: &[f64], table2: &[u32]) -> Best
+    requires { ⌜ Laid (now table1) (now floats1) ⌝ }
+    requires { ⌜ Laid (now table2) (now floats2) ⌝ }
+    ensures { λ r. ⌜ Keeps r (closestOf (itemsOf (storedRuns (now (table1 .entry)) (now (floats1 .entry)))) (itemsOf (storedRuns (now (table2 .entry)) (now (floats2 .entry))))) ⌝ }
+{
+    let mut boxes = [0.0; 96];
+    let mut places = [0usize; 48];
+    let list = listing::list_all(floats2, table2, &mut boxes, &mut places);
+    let listed = list.count;
+    let all = list.all;
+    if listed == 0 {
+        return items::none_yet();
+    }
+    if listed <= listing::LISTED {
+        return sweep(
+            items::none_yet(),
+            stop,
+            floats1,
+            table1,
+            floats2,
+            table2,
+            all,
+            listed_plan(listed),
+            &boxes,
+            &places,
+        );
+    }
+    sweep_many(stop, floats1, table1, floats2, table2, all)
 }
 
 // Whether a table holds one point and nothing else.
@@ -983,7 +988,8 @@ fn from_one_point(stop: bool, floats1: &[f64], floats2: &[f64], table2: &[u32]) 
     let first = items::none_yet();
     let a = items::item_at(Class::Points, floats1, 0, 1, 0);
     if is_one_point(table2) {
-        return items::offer(first, a, items::item_at(Class::Points, floats2, 0, 1, 0));
+        let b = items::item_at(Class::Points, floats2, 0, 1, 0);
+        return items::offer(first, a, b, false, false);
     }
     let a_box = items::box_of(a);
     let points = with_class(first, stop, a, a_box, Class::Points, floats2, table2);
@@ -1017,14 +1023,5 @@ pub fn closest(
     if is_one_point(table1) {
         return answered(from_one_point(stop_at_zero, floats1, floats2, table2));
     }
-    let bounds = box_all(floats2, table2);
-    let all = bounds.all;
-    if bounds.found {
-        let plan = plan_of(floats2, table2);
-        if is_large(plan) {
-            return answered(sweep_many(stop_at_zero, floats1, table1, floats2, table2, all, plan));
-        }
-        return answered(sweep_few(stop_at_zero, floats1, table1, floats2, table2, all, plan));
-    }
-    ClosestPair::Nothing
+    answered(from_all(stop_at_zero, floats1, table1, floats2, table2))
 }

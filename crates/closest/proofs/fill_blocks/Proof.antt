@@ -3,7 +3,6 @@ use mathlib.Core.Path.{_≡_, refl, _∙_}
 use Prim.Native.Nat.{_-_, _*_, _≤_}
 use native.Mathlib.Omega.{arith}
 use borrow.Author.Count.{below-none}
-use borrow.Author.Needs.{needs}
 use lib.ListN.{length}
 use Rattle.closest.specs.Spans.{Reaches}
 use Rattle.closest.specs.Blocks.{Blocks}

@@ -1,7 +1,7 @@
 -- `closest::from_class` meets its contract. The invariant: the items of the runs left, done from the best so far, give the whole; the floats hold those runs. Assumes nothing.
 use mathlib.Core.Logic.{⊎-elim}
 use mathlib.Core.Path.{_≡_, refl, sym, ap, _∙_}
-use Prim.Native.Nat.{_+_, _-_, _*_, _<_, _≤_}
+use Prim.Native.Nat.{_-_, _*_, _<_, _≤_}
 use native.Mathlib.Omega.{arith}
 use borrow.Author.Needs.{needs}
 use lib.ListN.{drop}
@@ -10,7 +10,7 @@ use Rattle.extremes.specs.Sweeps.{skipping}
 use Rattle.parts.proofs.Turns.{RoomFrom, room-start, room-run, room-next}
 use Rattle.parts.specs.Stored.{runsFrom, storedRuns, runCount}
 use Rattle.items.proofs.Turns.{turn-run, pass-run, no-items}
-use Rattle.items.specs.Inner.{classItems, bestOf, Sound, Keeps}
+use Rattle.items.specs.Inner.{classItems, bestOf, Sound}
 use Rattle.items.specs.Items.{itemsOf}
 use Rattle.closest.specs.Closest.{sweepOf}
 use Rattle.closest.proofs.Folds.{sweep-append}

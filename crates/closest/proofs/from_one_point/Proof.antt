@@ -1,4 +1,5 @@
 -- `closest::from_one_point` meets its contract. Assumes nothing.
+use mathlib.Core.Bool.{false≢true}
 use mathlib.Core.Path.{sym, _∙_}
 use native.Mathlib.Omega.{arith}
 use borrow.Author.Needs.{needs}
@@ -23,7 +24,7 @@ item-at-requires-2 : tie.Need-item-at-requires-2
 item-at-requires-2 c κs = (one-laid (c .before .before .before .before .before .before .before .args .table2 .now) (sym (c .before .is-one-point .ensures) ∙ c .if1 .taken) (c .before .before .before .before .before .before .before .args .floats2 .now) (c .before .before .before .before .before .before .before .pre .1), omega arith)
 
 offer-requires : tie.Need-offer-requires
-offer-requires c κs = c .before .before .before .before .none-yet .ensures .sound
+offer-requires c κs = (c .before .before .before .before .none-yet .ensures .sound, (λ e. absurd (false≢true e), λ e. absurd (false≢true e)))
 
 returns : tie.Need-returns
 unfolding withEach skipping noCloser withItem

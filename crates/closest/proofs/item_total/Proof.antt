@@ -1,19 +1,15 @@
 -- `closest::item_total` meets its contract. The invariant: the total so far and the items of the runs left are all. Assumes nothing.
-use mathlib.Core.Path.{_≡_, refl, sym, _∙_}
-use Prim.Native.Nat.{_+_, _-_, _*_, _<_, _≤_}
+use mathlib.Core.Path.{_≡_}
+use Prim.Native.Nat.{_+_, _-_, _*_, _<_}
 use native.Mathlib.Omega.{arith}
 use borrow.Author.Needs.{needs}
-use lib.ListN.{length, drop}
-use Rattle.workspace.specs.Workspace.{floatsPerCoordinate, numbersPerRun}
-use Rattle.parts.specs.Stored.{runCount, pointCount, Laid}
+use lib.ListN.{drop}
+use Rattle.workspace.specs.Workspace.{numbersPerRun}
+use Rattle.parts.specs.Stored.{runCount, Laid}
 use Rattle.closest.specs.Spans.{itemTotal}
 use Rattle.closest.proofs.Spans.{total-next, total-end, total-at-most}
 use Rattle.closest.proofs.item_total.Statement.{statement}
 use Rattle.closest.proofs.item_total.Tie as tie
-use Rattle.closest.proofs.item_total.Reads as reads
-use Rattle.closest.proofs.item_total.Lts as lts
-use Rattle.closest.proofs.items_in.Reads as items-in-reads
-use Rattle.parts.proofs.run_count.Reads as run-count-reads
 
 abbrev Inv-loop : tie.InvT-loop
 Inv-loop class floats table runs total₀ r₀ total r = total + itemTotal class (drop (numbersPerRun * r) table) ≡ itemTotal class table

@@ -1,7 +1,6 @@
 -- `closest::put_cursor` meets its contract. Assumes nothing.
 use native.Mathlib.Numerals.{add-one, add-two}
 use native.Mathlib.Omega.{arith}
-use borrow.Author.Needs.{needs}
 use lib.ListN.{length-set}
 use Rattle.closest.proofs.put_cursor.Statement.{statement}
 use Rattle.closest.proofs.put_cursor.Tie as tie

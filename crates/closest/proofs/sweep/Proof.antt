@@ -1,6 +1,5 @@
 -- `closest::sweep` meets its contract. Assumes nothing.
 use mathlib.Core.Path.{_∙_}
-use borrow.Author.Needs.{needs}
 use Rattle.items.specs.Items.{itemsOf}
 use Rattle.closest.proofs.Folds.{sweep-append}
 use Rattle.closest.proofs.sweep.Statement.{statement}

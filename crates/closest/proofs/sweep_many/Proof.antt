@@ -1,8 +1,12 @@
 -- `closest::sweep_many` meets its contract. Assumes nothing.
 use borrow.Author.Needs.{needs}
 use Rattle.closest.proofs.Blocks.{plans-with}
+use Rattle.closest.proofs.Known.{plans-indexed}
 use Rattle.closest.proofs.sweep_many.Statement.{statement}
 use Rattle.closest.proofs.sweep_many.Tie as tie
+
+plan-of-requires : tie.Need-plan-of-requires
+plan-of-requires c κs = c .before .before .before .before .pre .1
 
 largest-requires : tie.Need-largest-requires
 largest-requires c κs = search needs
@@ -29,7 +33,7 @@ slice-aggregate-sweep-2 : tie.Need-slice-aggregate-sweep-2
 slice-aggregate-sweep-2 c = search needs
 
 sweep-requires : tie.Need-sweep-requires
-sweep-requires c κs = (c .before .before .none-yet .ensures .sound, (c .before .before .before .before .before .before .before .before .before .before .before .before .before .before .pre .0, (c .before .before .before .before .before .before .before .before .before .before .before .before .before .before .pre .1 .0, rw (c .before .before .before .plan-with .ensures) (plans-with (c .before .before .before .before .before .before .before .before .before .before .before .before .before .before .args .plan) (c .before .before .before .before .before .before .cut-part .result) (c .before .before .before .before .before .before .before .before .before .before .before .before .before .before .pre .1 .1 _ _) (c .before .before .before .before .before .before .cut-part .ensures)))))
+sweep-requires c κs = (c .before .before .none-yet .ensures .sound, (c .before .before .before .before .before .before .before .before .before .before .before .before .before .before .before .pre .0, (c .before .before .before .before .before .before .before .before .before .before .before .before .before .before .before .pre .1, rw (c .before .before .before .plan-with .ensures) (plans-indexed _ (plans-with (c .before .before .before .before .before .before .before .before .before .before .plan-of .result) (c .before .before .before .before .before .before .cut-part .result) (c .before .before .before .before .before .before .before .before .before .before .plan-of .ensures _ _) (c .before .before .before .before .before .before .cut-part .ensures))))))
 
 returns : tie.Need-returns
 returns c = rw (← c .before .before .before .none-yet .ensures .same) (c .sweep .ensures)
@@ -38,6 +42,7 @@ pub sweep-many-spec : {M : Type 1} → statement M
 sweep-many-spec =
     tie.close
     (tie.spec
+    plan-of-requires
     largest-requires
     slice-aggregate-cut-part
     slice-aggregate-cut-part-2

@@ -1,4 +1,7 @@
 -- `closest::with_all` meets its contract. Assumes nothing.
+use mathlib.Core.Path.{sym, _∙_}
+use mathlib.Core.Bool.{false≢true}
+use native.Mathlib.Omega.{arith}
 use borrow.Author.Needs.{needs}
 use Rattle.closest.proofs.with_all.Statement.{statement}
 use Rattle.closest.proofs.with_all.Tie as tie
@@ -12,16 +15,43 @@ min-dist-sq-requires c κs = search needs
 no-closer-requires : tie.Need-no-closer-requires
 no-closer-requires c κs = search needs
 
-returns : tie.Need-returns
-returns c = record { same = rw (← c .before .before .before .box-of .ensures, ← c .before .before .min-dist-sq .ensures, ← c .before .no-closer .ensures, c .if1 .taken); sound = c .before .before .before .before .before .before .before .before .pre .0 }
+forget-requires : tie.Need-forget-requires
+forget-requires c κs = search needs
 
-with-classes-requires : tie.Need-with-classes-requires
-with-classes-requires c κs = let pre = c .before .before .before .before .before .before .before .before .pre in (pre .0, (c .before .before .before .box-of .ensures, (pre .1 .0, pre .1 .1)))
+returns : tie.Need-returns
+returns c = (
+  record { same = rw (← c .before .before .before .before .before .box-of .ensures, ← c .before .before .before .before .min-dist-sq .ensures, ← c .before .before .before .no-closer .ensures, c .before .before .if1 .taken); sound = c .before .before .before .before .before .before .before .before .before .before .pre .0 },
+  λ k h e. absurd (false≢true (sym (c .forget .ensures k) ∙ e)),
+)
+
+with-list-requires : tie.Need-with-list-requires
+with-list-requires c κs = (c .before .before .before .before .before .before .before .before .before .before .pre .0, (c .before .before .before .before .before .box-of .ensures, (c .before .before .before .before .before .before .before .before .before .before .pre .1 .1 .0 .listed (c .before .if2 .taken), c .before .before .before .before .before .before .before .before .before .before .pre .1 .1 .1)))
 
 returns-2 : tie.Need-returns-2
-returns-2 c = rw (← c .before .before .before .before .box-of .ensures, ← c .before .before .before .min-dist-sq .ensures, ← c .before .before .no-closer .ensures, c .before .if1 .left) (c .with-classes .ensures)
+returns-2 c = (
+  rw (← c .before .before .before .before .before .before .box-of .ensures, ← c .before .before .before .before .before .min-dist-sq .ensures, ← c .before .before .before .before .no-closer .ensures, c .before .before .before .if1 .left, ← c .before .before .before .before .before .before .before .before .before .before .before .pre .1 .1 .0 .items (c .before .before .if2 .taken)) (c .with-list .ensures .0),
+  c .with-list .ensures .1,
+)
+
+with-classes-requires : tie.Need-with-classes-requires
+with-classes-requires c κs = (c .before .before .before .before .before .before .before .before .before .pre .0, (c .before .before .before .before .box-of .ensures, (c .before .before .before .before .before .before .before .before .before .pre .1 .0, c .before .before .before .before .before .before .before .before .before .pre .1 .1 .0 .planned (omega arith))))
+
+returns-3 : tie.Need-returns-3
+returns-3 c = (
+  rw (← c .before .before .before .before .before .box-of .ensures, ← c .before .before .before .before .min-dist-sq .ensures, ← c .before .before .before .no-closer .ensures, c .before .before .if1 .left) (c .with-classes .ensures),
+  λ k h e. absurd (omega arith),
+)
 
 pub with-all-spec : {M : Type 1} → statement M
 with-all-spec =
     tie.close
-    (tie.spec box-of-requires min-dist-sq-requires no-closer-requires returns with-classes-requires returns-2)
+    (tie.spec
+    box-of-requires
+    min-dist-sq-requires
+    no-closer-requires
+    forget-requires
+    returns
+    with-list-requires
+    returns-2
+    with-classes-requires
+    returns-3)

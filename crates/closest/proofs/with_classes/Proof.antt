@@ -1,6 +1,5 @@
 -- `closest::with_classes` meets its contract. Assumes nothing.
 use mathlib.Core.Path.{_∙_}
-use borrow.Author.Needs.{needs}
 use Rattle.items.specs.Items.{itemsOf}
 use Rattle.closest.proofs.Folds.{each-append}
 use Rattle.closest.proofs.Blocks.{described}

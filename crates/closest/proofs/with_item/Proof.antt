@@ -18,7 +18,7 @@ item-at-requires : tie.Need-item-at-requires
 item-at-requires c κs = search needs
 
 offer-requires : tie.Need-offer-requires
-offer-requires c κs = (c .before .before .before .before .before .pre .0, (λ t. absurd (false≢true t), λ t. absurd (false≢true t)))
+offer-requires c κs = (c .before .before .before .before .before .pre .0, (λ e. absurd (false≢true e), λ e. absurd (false≢true e)))
 
 returns-2 : tie.Need-returns-2
 unfolding withItem

@@ -1,6 +1,5 @@
 -- `closest::with_part` meets its contract. Assumes nothing.
 use mathlib.Core.Path.{_∙_, sym}
-use borrow.Author.Needs.{needs}
 use Rattle.parts.proofs.Turns.{room-start}
 use Rattle.closest.proofs.Folds.{each-none}
 use Rattle.closest.proofs.Spans.{past-all, none-taken}

@@ -1,25 +1,18 @@
 -- `closest::with_span` meets its contract. The invariant: what is left of the span, done from the best so far, gives the whole; the floats hold the runs left. Assumes nothing.
-use mathlib.Core.Path.{_≡_, refl, sym, ap, _∙_}
-use Prim.Native.Nat.{_+_, _-_, _<_, _≤_}
+use mathlib.Core.Path.{_≡_, refl, sym, _∙_}
+use Prim.Native.Nat.{_+_, _-_, _<_}
 use native.Mathlib.Omega.{arith}
 use borrow.Author.Needs.{needs}
-use lib.ListN.{length, take}
+use lib.ListN.{take}
 use Rattle.parts.specs.Stored.{runCount}
 use Rattle.parts.proofs.Turns.{room-run, room-next}
-use Rattle.items.specs.Inner.{itemOf, itemCount, bestOf, Sound}
+use Rattle.items.specs.Inner.{itemOf, bestOf, Sound}
 use Rattle.closest.specs.Closest.{withEach}
-use Rattle.closest.specs.Spans.{itemsIn, itemsPast, RoomPast}
+use Rattle.closest.specs.Spans.{itemsPast, RoomPast}
 use Rattle.closest.proofs.Folds.{and-true, each-none, each-next, each-at-zero}
 use Rattle.closest.proofs.Spans.{turn-past, past-run, none-taken, end-taken, item-of-run}
 use Rattle.closest.proofs.with_span.Statement.{statement}
 use Rattle.closest.proofs.with_span.Tie as tie
-use Rattle.closest.proofs.with_span.Reads as reads
-use Rattle.closest.proofs.with_span.Lts as lts
-use Rattle.closest.proofs.items_in.Reads as items-in-reads
-use Rattle.closest.proofs.stops.Reads as stops-reads
-use Rattle.closest.proofs.with_item.Reads as with-item-reads
-use Rattle.parts.proofs.count_at.Reads as count-at-reads
-use Rattle.parts.proofs.run_count.Reads as run-count-reads
 
 abbrev Inv-loop : tie.InvT-loop
 Inv-loop stop a a-box class floats table count runs seen₀ left₀ r₀ at₀ j₀ seen left r at j = RoomPast table floats r at
