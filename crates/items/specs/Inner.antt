@@ -73,7 +73,7 @@ pub record Keeps (b : Best) (best : Option Witness) : Type 0 where
   pub same : bestOf b ≡ best
   pub sound : Sound b
 
--- none of three sums is less than the best's
+-- each of three sums is at least the best's; not so where one is NaN
 abbrev pub noneLess : Float → Float → Float → Float → Bool
 noneLess least x y z = le least x && (le least y && le least z)
 

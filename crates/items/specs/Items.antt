@@ -2,7 +2,8 @@
 use Prim.Native.Nat.{ℕ}
 use mathlib.Core.Path.{_≡_}
 use mathlib.Core.Bool.{Bool, true, cond}
-use mathlib.Core.List.{List, [], _∷_, _++_, map}
+use mathlib.Core.List.{List, [], _∷_, _++_, map, foldl}
+use mathlib.Core.Option.{Option, none, some}
 use Rattle.coords.specs.Parts.{Run, run, isPoint, isLine, isFace}
 use Rattle.primitives.specs.declared.Point.{Point}
 use Rattle.primitives.specs.declared.Aabb.{Aabb}
@@ -58,6 +59,15 @@ unfoldable pub boxOfItem : Item → Aabb
 boxOfItem (point p) = boxOfPoint p
 boxOfItem (segment a b) = unionOf (boxOfPoint a) (boxOfPoint b)
 boxOfItem (triangle a b c) = unionOf (unionOf (boxOfPoint a) (boxOfPoint b)) (boxOfPoint c)
+
+-- the box of the items so far, with one more in it
+unfoldable pub uniteItem : Option Aabb → Item → Option Aabb
+uniteItem none i = some (boxOfItem i)
+uniteItem (some box) i = some (unionOf box (boxOfItem i))
+
+-- the box of all items; none if there is no item (document 01, Closest sweep: all of B)
+unfoldable pub boxOfItems : List Item → Option Aabb
+boxOfItems is = foldl uniteItem none is
 
 -- ---- point runs only (document 01, Words of the third property)
 

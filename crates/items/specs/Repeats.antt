@@ -1,4 +1,4 @@
--- Candidates that an item shares with the item before it and with the item after it in its run. Serves inner contracts. Definitions only.
+-- Witnesses that an item of a run hands on to the next: where it was measured with an item of the other side, not skipped, they are settled there. Serves inner contracts. Definitions only.
 use mathlib.Core.Path.{_≡_}
 use mathlib.Core.List.{List, [], _∷_}
 use mathlib.Core.Option.{Option}
@@ -16,7 +16,7 @@ AllSettled best (w ∷ ws) = (taking shorter best w ≡ best) × AllSettled best
 
 -- ---- an item of A with an item of B
 
--- the candidates that the next item of A's run has too: those of the end of a segment, and of the first vertex, the last vertex and the edge between them of a fan's triangle
+-- what an item of A leaves to the next of its run: the witness of a segment's end; those of a fan's first and last vertex, and of the edge from the last to the first, which the next has too only if it closes the ring
 unfoldable pub firstAfter : Item → Item → List Witness
 firstAfter (point p) i = []
 firstAfter (segment s e) (point q) = []
@@ -26,7 +26,7 @@ firstAfter (triangle a b c) (point q) = []
 firstAfter (triangle a b c) (segment s e) = []
 firstAfter (triangle a b c) (triangle d e f) = pointTriangle a d e f ∷ pointTriangle c d e f ∷ edgeWitnesses c a d e f
 
--- the candidates that the item before it in A's run has too
+-- the same of the item before: of a segment's start; of a triangle's first two vertices, and of the edge b a, which is its own edge b c where c is a
 unfoldable pub firstBefore : Item → Item → List Witness
 firstBefore (point p) i = []
 firstBefore (segment s e) (point q) = []
@@ -36,7 +36,7 @@ firstBefore (triangle a b c) (point q) = []
 firstBefore (triangle a b c) (segment s e) = []
 firstBefore (triangle a b c) (triangle d e f) = pointTriangle a d e f ∷ pointTriangle b d e f ∷ edgeWitnesses b a d e f
 
--- the candidates that the next item of B's run has too
+-- what an item of B leaves to the next of its run
 unfoldable pub secondAfter : Item → Item → List Witness
 secondAfter (point p) i = []
 secondAfter (segment s e) i = []
@@ -50,7 +50,7 @@ secondAfter (triangle a b c) (triangle d e f) =
     ∷ segmentSegment c a f d
     ∷ []
 
--- the candidates that the item before it in B's run has too
+-- the same of the item before
 unfoldable pub secondBefore : Item → Item → List Witness
 secondBefore (point p) i = []
 secondBefore (segment s e) i = []

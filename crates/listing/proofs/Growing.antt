@@ -19,7 +19,7 @@ use Rattle.primitives.specs.declared.Aabb.{Aabb}
 use Rattle.primitives.specs.Boxes.{unionOf}
 use Rattle.parts.specs.Stored.{pointsFrom, runsFrom, runCount, kindAt, countAt}
 use Rattle.parts.proofs.Turns.{runs-next}
-use Rattle.items.specs.Items.{Item, itemsOfKind, itemsOf, boxOfItem}
+use Rattle.items.specs.Items.{Item, itemsOfKind, itemsOf, boxOfItem, uniteItem, boxOfItems}
 use Rattle.items.specs.Inner.{isOfClass, itemsBy, classItems, itemCount, itemAt}
 use Rattle.items.specs.declared.Class.{Class}
 use Rattle.items.specs.declared.Class.the-variants.{Points, Segments, Triangles}
@@ -27,19 +27,19 @@ use Rattle.items.proofs.Turns.{itemsLeft, turn-item}
 use Rattle.listing.specs.declared.Listing.{Listing}
 use Rattle.listing.specs.declared.Place.{Place}
 use Rattle.listing.specs.Rows.{floatsPerBox, numbersPerPlace, placeNumbers}
-use Rattle.listing.specs.Listing.{mostListed, uniteOne, boxOfAll, itemPlaced, RoomAt, listedFrom, Entries, Lists}
+use Rattle.listing.specs.Listing.{mostListed, itemPlaced, RoomAt, listedFrom, Entries, Lists}
 use Rattle.listing.specs.Inner.{withBox, withPlace, Adds}
 use Rattle.listing.proofs.Rows.{box-put, box-kept, place-put, place-kept}
 use Rattle.listing.proofs.Listed.{listed-more, listed-same}
 
 -- ---- no item
 pub lists-none : (all : Aabb) (floats boxes : List Float) (places : List ℕ) → Lists (record { count = 0; all = all }) [] floats boxes places
-unfolding boxOfAll listedFrom
+unfolding boxOfItems listedFrom
 lists-none all floats boxes places = record { count = refl; box = refl; entries = λ h. below-none _; items = λ h. refl }
 
 -- ---- one item more
-united : (t : Bool) (box b : Aabb) (i : Item) → b ≡ boxOfItem i → some (cond t (unionOf box b) b) ≡ uniteOne (cond t (some box) none) i
-unfolding uniteOne
+united : (t : Bool) (box b : Aabb) (i : Item) → b ≡ boxOfItem i → some (cond t (unionOf box b) b) ≡ uniteItem (cond t (some box) none) i
+unfolding uniteItem
 united true box b i e = rw e
 united false box b i e = rw e
 
@@ -65,11 +65,11 @@ pub lists-more : (floats boxes : List Float) (places : List ℕ) (list : Listing
     → floatsPerBox * mostListed ≤ length boxes → numbersPerPlace * mostListed ≤ length places
     → RoomAt floats p → b ≡ boxOfItem (itemPlaced floats p) → all ≡ cond (ltb 0 (list .count)) (unionOf (list .all) b) b
     → Adds (itemPlaced floats p ∷ []) floats list boxes places (record { count = list .count + 1; all = all }) (withBox boxes (list .count) b) (withPlace places (list .count) p)
-unfolding boxOfAll
+unfolding boxOfItems
 lists-more floats boxes places list b all p hb hp room b-is all-is is l =
     record {
       count = simp length-append (omega (arith, l .count));
-      box = rw (lt-ltb 0 (list .count + 1) (omega arith), all-is, united (ltb 0 (list .count)) (list .all) b (itemPlaced floats p) b-is, l .box) (sym (foldl-append uniteOne none is (itemPlaced floats p ∷ [])));
+      box = rw (lt-ltb 0 (list .count + 1) (omega arith), all-is, united (ltb 0 (list .count)) (list .all) b (itemPlaced floats p) b-is, l .box) (sym (foldl-append uniteItem none is (itemPlaced floats p ∷ [])));
       entries = λ h. entries-more floats boxes places (list .count) b p hb hp room b-is (omega arith) (l .entries (omega arith));
       items = λ h. items-more floats boxes places (list .count) b p hb hp room b-is (omega arith) is (l .items (omega arith));
     }

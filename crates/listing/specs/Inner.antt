@@ -12,14 +12,14 @@ use Rattle.listing.specs.declared.Place.{Place}
 use Rattle.listing.specs.Rows.{floatsPerBox, boxFloats, numbersPerPlace, placeNumbers}
 use Rattle.listing.specs.Listing.{mostListed, Lists}
 
--- the boxes with one more as the k-th, if there is room for it
+-- the boxes with one more as the k-th, if k is one of those that are listed
 abbrev pub withBox : List Float → ℕ → Aabb → List Float
 withBox boxes k b = cond (ltb k mostListed) (sets boxes (floatsPerBox * k) (boxFloats b)) boxes
 
--- the places with one more as the k-th, if there is room for it
+-- the places with one more as the k-th, if k is one of those that are listed
 abbrev pub withPlace : List ℕ → ℕ → Place → List ℕ
 withPlace places k p = cond (ltb k mostListed) (sets places (numbersPerPlace * k) (placeNumbers p)) places
 
--- what the first listing lists, and the items after it, is what the second lists
+-- whatever the first listing lists, that and the items after it are what the second lists
 abbrev pub Adds : List Item → List Float → Listing → List Float → List ℕ → Listing → List Float → List ℕ → Type 0
 Adds more floats list boxes places list′ boxes′ places′ = (is : List Item) → Lists list is floats boxes places → Lists list′ (is ++ more) floats boxes′ places′

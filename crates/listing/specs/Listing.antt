@@ -1,16 +1,15 @@
--- The items of a side, listed: how many, the box of all, and of few items each one's box and place (document 01, Closest sweep). Definitions only.
+-- The items of a side, listed: how many, the box of all, and of few items each one's box and place. Serves inner contracts. Definitions only.
 use Prim.Native.Nat.{ℕ, zero, suc, _+_, _*_, _<_, _≤_}
 use mathlib.Core.Path.{_≡_}
 use mathlib.Core.Bool.{cond}
-use mathlib.Core.List.{List, [], _∷_, foldl}
+use mathlib.Core.List.{List, [], _∷_}
 use mathlib.Core.Option.{Option, none, some}
 use lib.Dec.{ltb}
 use lib.ListN.{length}
 use lib.Ieee.{Float}
 use Rattle.workspace.specs.Workspace.{floatsPerCoordinate}
 use Rattle.primitives.specs.declared.Aabb.{Aabb}
-use Rattle.primitives.specs.Boxes.{unionOf}
-use Rattle.items.specs.Items.{Item, boxOfItem}
+use Rattle.items.specs.Items.{Item, boxOfItem, boxOfItems}
 use Rattle.items.specs.Inner.{itemAt}
 use Rattle.items.specs.declared.Class.{Class}
 use Rattle.items.specs.declared.Class.the-variants.{Points, Segments, Triangles}
@@ -23,15 +22,6 @@ abbrev pub mostListed : ℕ
 mostListed = 16
 
 -- ---- the box of all items
-
--- the box of the items so far, with one more in it
-unfoldable pub uniteOne : Option Aabb → Item → Option Aabb
-uniteOne none i = some (boxOfItem i)
-uniteOne (some box) i = some (unionOf box (boxOfItem i))
-
--- the box of all items; none if there is no item
-unfoldable pub boxOfAll : List Item → Option Aabb
-boxOfAll is = foldl uniteOne none is
 
 -- the box of a listing, if there is an item in it
 abbrev pub boundsOf : Listing → Option Aabb
@@ -76,6 +66,6 @@ Entries n floats boxes places = (k : ℕ) → k < n → Entry k floats boxes pla
 -- a listing of the items: their number, the box of all, and of few items each one's box and place
 pub record Lists (list : Listing) (is : List Item) (floats boxes : List Float) (places : List ℕ) : Type 0 where
   pub count : list .count ≡ length is
-  pub box : boundsOf list ≡ boxOfAll is
+  pub box : boundsOf list ≡ boxOfItems is
   pub entries : list .count ≤ mostListed → Entries (list .count) floats boxes places
   pub items : list .count ≤ mostListed → listedFrom floats places 0 (list .count) ≡ is

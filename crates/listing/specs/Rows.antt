@@ -1,4 +1,4 @@
--- Boxes and places of items in rows of numbers. Definitions only.
+-- Boxes and places of items in rows of numbers. Serves inner contracts. Definitions only.
 use Prim.Native.Nat.{ℕ, _+_, _*_}
 use mathlib.Core.Bool.{cond}
 use mathlib.Core.List.{List, [], _∷_}

@@ -17,7 +17,7 @@ footParameter p a b =
     cond (eq (squaredDistance b a) positiveZero) positiveZero
     (clampOf (div binary64 (dotOf (differenceOf p a) (differenceOf b a)) (squaredDistance b a)))
 
--- the point, and the foot of its perpendicular or the nearer end
+-- the point, and the point of the segment at that parameter
 unfoldable pub pointSegment : Point → Point → Point → Witness
 pointSegment p a b = betweenOf p (interpolatedOf a b (footParameter p a b))
 
@@ -101,11 +101,11 @@ innerSide u v foot n = le positiveZero (dotOf (crossOf (differenceOf v u) (diffe
 unfoldable pub insideTriangle : Point → Point → Point → Point → Point → Bool
 insideTriangle a b c foot n = innerSide a b foot n && (innerSide b c foot n && innerSide c a foot n)
 
--- the nearest of the three edges, the first of equals
+-- the nearest of the three edges, the first of equals; a first one of distance NaN stays
 unfoldable pub pointEdges : Point → Point → Point → Point → Witness
 pointEdges p a b c = smallerOf (smallerOf (pointSegment p a b) (pointSegment p b c)) (pointSegment p c a)
 
--- the plane has a normal above 0, and the foot lies inside
+-- the squared length of the normal is above 0, and the foot lies inside
 unfoldable pub footInside : Point → Point → Point → Point → Point → Bool
 footInside p a b c n = lt positiveZero (dotOf n n) && insideTriangle a b c (footOf p a n) n
 
