@@ -16,8 +16,10 @@ use Rattle.extremes.proofs.Lists.{Each}
 use Rattle.extremes.proofs.Taking.{BestFits, Unbeaten, unbeaten-stays}
 use Rattle.parts.specs.Stored.{storedRuns}
 use Rattle.items.specs.Items.{Item, itemsOf, point, segment, triangle}
+use Rattle.items.specs.Inner.{itemAt}
 use Rattle.items.specs.Candidates.{candidatesOf}
 use Rattle.items.specs.Repeats.{AllSettled, firstAfter, firstBefore, secondAfter, secondBefore}
+use Rattle.items.specs.declared.Class.{Class}
 use Rattle.items.proofs.NotBelowZero.{Distant, candidates-not-below}
 use Rattle.items.proofs.Repeats.{settled-stays, measured-first, measured-second, second-turn, first-distant}
 use Rattle.listing.specs.declared.Listing.{Listing}
@@ -78,6 +80,11 @@ module _ (a b : Item) (far : Bool) (s t : Option Witness) (fits : BestFits s) (t
   turn-second : far ≡ false → AllSettled t (secondAfter a b)
   unfolding withItem
   turn-second e = rw (turn, e) (measured-second s a b fits)
+
+-- item j of a run of B, if it is measured: what the next item has too
+pub again-next : (a : Item) (class : Class) (floats : List Float) (at j : ℕ) (far : Bool) (s t : Option Witness) → BestFits s → t ≡ cond far s (withItem a s (itemAt class floats at j))
+    → far ≡ false → AllSettled t (secondBefore a (itemAt class floats at (j + 1)))
+again-next a class floats at j far s t fits turn e = rw (← second-turn a class floats at j) (turn-second a (itemAt class floats at j) far s t fits turn e)
 
 -- ---- from listed item to listed item
 stored-true : (l : List Bool) (k : ℕ) (m : Bool) → getD (set l k m) k false ≡ true → m ≡ true

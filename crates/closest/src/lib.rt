@@ -17,7 +17,7 @@ ghost use Rattle.workspace.specs.Workspace.{floatsPerCoordinate};
 ghost use Rattle.parts.specs.Stored.{pointAt, pointsFrom, storedRuns, runCount, Laid};
 ghost use Rattle.items.specs.Items.{point, itemsOf, boxOfItem};
 ghost use Rattle.items.specs.Repeats.{AllSettled, firstBefore, firstAfter};
-ghost use Rattle.items.specs.Inner.{itemOf, itemCount, itemAt, itemsBy, classItems, bestOf, Sound, Keeps};
+ghost use Rattle.items.specs.Inner.{itemOf, itemsBy, classItems, bestOf, Sound, Keeps};
 ghost use Rattle.listing.specs.Rows.{floatsPerBox, numbersPerPlace, placeAt};
 ghost use Rattle.listing.specs.Listing.{RoomAt, listedItem, listedFrom};
 ghost use Rattle.closest.specs.Closest.{noCloser, withItem, withEach, sweepOf, closestOf, answerOf};
@@ -93,33 +93,6 @@ fn stops(stop_at_zero: bool, best: Best) -> bool
     false
 }
 
-// Item a of A, whose box is given, with item j of a run of n points of B that start at place at, unless it is skipped.
-fn with_item(
-    best: Best,
-    a: Shape,
-    a_box: Aabb,
-    class: Class,
-    floats: &[f64],
-    at: usize,
-    n: usize,
-    j: usize,
-) -> Best
-    requires { ⌜ Sound best ⌝ }
-    requires { ⌜ (floatsPerCoordinate * (at + n) ≤ length (now floats)) × (j < itemCount class n) ⌝ }
-    ensures { λ r. ⌜ Keeps r (cond (noCloser (bestOf best) (leastSquaredGap «a_box» (boxOfItem (itemAt class (now (floats .entry)) at j)))) (bestOf best) (withItem (itemOf a) (bestOf best) (itemAt class (now (floats .entry)) at j))) ⌝ }
-{
-    if no_closer(best, items::gap_to(class, a_box, floats, at, n, j)) {
-        return best;
-    }
-    items::offer(
-        best,
-        a,
-        items::item_at(class, floats, at, n, j),
-        false,
-        false,
-    )
-}
-
 // How many items of a class run r has.
 fn items_in(class: Class, table: &[u32], r: usize) -> usize
     requires { ⌜ r < runCount (now table) ⌝ }
@@ -165,6 +138,7 @@ fn with_span(
 {
     let runs = parts::run_count(table);
     let mut seen = best;
+    let mut measured = false;
     let mut left = count;
     let mut r = from.r;
     let mut at = from.at;
@@ -179,10 +153,16 @@ fn with_span(
         let n = parts::count_at(table, r);
         let here = items_in(class, table, r);
         if j < here {
-            seen = with_item(seen, a, a_box, class, floats, at, n, j);
+            let far = no_closer(seen, items::gap_to(class, a_box, floats, at, n, j));
+            if far {} else {
+                let b = items::item_at(class, floats, at, n, j);
+                seen = items::offer(seen, a, b, false, measured);
+            }
+            measured = !far;
             j += 1;
             left -= 1;
         } else {
+            measured = false;
             at += n;
             r += 1;
             j -= here;
@@ -943,7 +923,10 @@ fn with_run(
         if stops(stop, seen) {
             return seen;
         }
-        seen = with_item(seen, a, a_box, class, floats, at, n, j);
+        if no_closer(seen, items::gap_to(class, a_box, floats, at, n, j)) {} else {
+            let b = items::item_at(class, floats, at, n, j);
+            seen = items::offer(seen, a, b, false, false);
+        }
         j += 1;
     }
     seen
