@@ -161,6 +161,6 @@ pub plans-with : (plan : Plan) (part : Part) {class : Class} {table : List ℕ} 
 plans-with plan part {class} {table} {floats} {boxes} {starts} p d = subst (λ (k : Class). Plans (planWith k plan part) table floats boxes starts) (sym (d .class-is)) (go class d)
   where
     go : (k : Class) → Describes part k table floats boxes starts → Plans (planWith k plan part) table floats boxes starts
-    go Points e = record { unlisted = p .unlisted; points = e; segments = p .segments; triangles = p .triangles }
-    go Segments e = record { unlisted = p .unlisted; points = p .points; segments = e; triangles = p .triangles }
-    go Triangles e = record { unlisted = p .unlisted; points = p .points; segments = p .segments; triangles = e }
+    go Points e = record { points = e; segments = p .segments; triangles = p .triangles }
+    go Segments e = record { points = p .points; segments = e; triangles = p .triangles }
+    go Triangles e = record { points = p .points; segments = p .segments; triangles = e }

@@ -5,31 +5,26 @@ use mathlib.Core.List.{List, [], _∷_}
 use mathlib.Core.Option.{Option, none, some}
 use Prim.Native.Nat.{ℕ, zero, suc, _+_, _-_, _*_, _<_, _≤_}
 use native.Mathlib.Omega.{arith}
-use borrow.Author.Tests.{lt-ltb}
 use borrow.Author.Count.{below-more, below-none}
-use lib.ListN.{length, getD, set, replicate}
+use lib.ListN.{getD, set, replicate}
 use lib.Seq.{getD-set-other}
 use lib.Ieee.{Float}
 use Rattle.primitives.specs.declared.Witness.{Witness}
 use Rattle.extremes.specs.Sweeps.{shorter}
 use Rattle.extremes.proofs.Lists.{Each}
 use Rattle.extremes.proofs.Taking.{BestFits, Unbeaten, unbeaten-stays}
-use Rattle.parts.specs.Stored.{storedRuns}
-use Rattle.items.specs.Items.{Item, itemsOf, point, segment, triangle}
+use Rattle.items.specs.Items.{Item, point, segment, triangle}
 use Rattle.items.specs.Inner.{itemAt}
 use Rattle.items.specs.Candidates.{candidatesOf}
 use Rattle.items.specs.Repeats.{AllSettled, firstAfter, firstBefore, secondAfter, secondBefore}
 use Rattle.items.specs.declared.Class.{Class}
 use Rattle.items.proofs.NotBelowZero.{Distant, candidates-not-below}
 use Rattle.items.proofs.Repeats.{settled-stays, measured-first, measured-second, second-turn, first-distant}
-use Rattle.listing.specs.declared.Listing.{Listing}
-use Rattle.listing.specs.Rows.{floatsPerBox, numbersPerPlace, placeAt}
-use Rattle.listing.specs.Listing.{mostListed, listedItem, Lists}
-use Rattle.closest.specs.Closest.{withItem, sweepOf, closestWithin, closestOf}
+use Rattle.listing.specs.Rows.{numbersPerPlace, placeAt}
+use Rattle.listing.specs.Listing.{listedItem}
+use Rattle.closest.specs.Closest.{withItem}
 use Rattle.closest.specs.Inner.{atZero}
-use Rattle.closest.specs.Blocks.{Plans}
-use Rattle.closest.specs.Known.{Indexed, Known, MeasuredBefore, Follows}
-use Rattle.closest.specs.declared.Plan.{Plan}
+use Rattle.closest.specs.Known.{Known, MeasuredBefore, Follows}
 
 -- ---- a best of distance 0 settles all
 unbeaten-zero : (s : Option Witness) → atZero s ≡ true → (w : Witness) → Distant w → Unbeaten shorter s w
@@ -145,28 +140,3 @@ pub none-known : (n k : ℕ) → getD (replicate n false) k false ≡ false
 none-known zero k = refl
 none-known (suc n) zero = refl
 none-known (suc n) (suc k) = none-known n k
-
--- ---- a side, planned or listed
-pub plans-indexed : (plan : Plan) {table : List ℕ} {floats boxes : List Float} {starts : List ℕ} → Plans plan table floats boxes starts → Indexed plan table floats boxes starts
-plans-indexed plan p =
-    let z : plan .listed ≡ 0 = p .unlisted in
-    record { listed = λ h. absurd (omega arith); items = λ h. absurd (omega arith); planned = λ e. p }
-
-module _ (list : Listing) (rs : List Item) (floats boxes : List Float) (places : List ℕ) (lists : Lists list rs floats boxes places) where
-  pub lists-indexed : (plan : Plan) (table : List ℕ) → rs ≡ itemsOf (storedRuns table floats) → plan .listed ≡ list .count → 0 < list .count → list .count ≤ mostListed
-      → floatsPerBox * mostListed ≤ length boxes → numbersPerPlace * mostListed ≤ length places → Indexed plan table floats boxes places
-  lists-indexed plan table r e h few hb hp =
-      record {
-        listed = λ g. rw e (record { few = few; boxes-room = omega arith; places-room = omega arith; entries = lists .entries few });
-        items = λ g. rw e (lists .items few ∙ r);
-        planned = λ z. absurd (omega arith);
-      }
-
-  -- the sweep by the box of the listing
-  pub listed-some : (ls : List Item) → 0 < list .count → closestOf ls rs ≡ sweepOf (list .all) rs none ls
-  unfolding closestOf closestWithin
-  listed-some ls h = rw (← lists .box, lt-ltb 0 (list .count) h)
-
-  pub listed-nothing : (ls : List Item) → list .count ≡ 0 → closestOf ls rs ≡ none
-  unfolding closestOf closestWithin
-  listed-nothing ls e = rw (← lists .box, e)

@@ -8,3 +8,4 @@ pub mod Covering
 pub mod Blocks
 pub mod OnePoint
 pub mod Known
+pub mod Indexed

@@ -44,7 +44,7 @@ pub record Block (k size : ℕ) (class : Class) (table : List ℕ) (floats : Lis
 abbrev pub Blocks : ℕ → ℕ → Class → List ℕ → List Float → List Float → List ℕ → Type 0
 Blocks n size class table floats boxes starts = (k : ℕ) → k < n → Block k size class table floats boxes starts
 
--- a class is cut into so many blocks of size items, of which the last ones may have fewer
+-- a class is cut into so many blocks of size items
 pub record Cut (used size : ℕ) (class : Class) (table : List ℕ) (floats : List Float) (boxes : List Float) (starts : List ℕ) : Type 0 where
   pub all : itemTotal class table ≤ used * size
   pub boxes-room : floatsPerBox * used ≤ length boxes
@@ -59,9 +59,8 @@ pub record Describes (part : Part) (class : Class) (table : List ℕ) (floats : 
   pub total-is : part .total ≡ itemTotal class table
   pub cut : 0 < part .used → Cut (part .used) (part .size) class table floats boxes starts
 
--- no item is listed, and the parts are of the classes in order; blocks start at row 0, so at most one class is cut
+-- the parts are of the classes in order
 pub record Plans (plan : Plan) (table : List ℕ) (floats : List Float) (boxes : List Float) (starts : List ℕ) : Type 0 where
-  pub unlisted : plan .listed ≡ 0
   pub points : Describes (plan .points) Points table floats boxes starts
   pub segments : Describes (plan .segments) Segments table floats boxes starts
   pub triangles : Describes (plan .triangles) Triangles table floats boxes starts
@@ -70,8 +69,21 @@ pub record Plans (plan : Plan) (table : List ℕ) (floats : List Float) (boxes :
 abbrev pub Uncut : Plan → List ℕ → List Float → Type 0
 Uncut plan table floats = (boxes : List Float) (starts : List ℕ) → Plans plan table floats boxes starts
 
--- the plan with another part for a class
+-- the plan with another part for the part's class
 abbrev pub planWith : Class → Plan → Part → Plan
-planWith Points plan part = record { listed = plan .listed; points = part; segments = plan .segments; triangles = plan .triangles }
-planWith Segments plan part = record { listed = plan .listed; points = plan .points; segments = part; triangles = plan .triangles }
-planWith Triangles plan part = record { listed = plan .listed; points = plan .points; segments = plan .segments; triangles = part }
+planWith Points plan part = record { points = part; segments = plan .segments; triangles = plan .triangles }
+planWith Segments plan part = record { points = plan .points; segments = part; triangles = plan .triangles }
+planWith Triangles plan part = record { points = plan .points; segments = plan .segments; triangles = part }
+
+-- ---- a plan as numbers in a row
+
+abbrev pub numbersPerPart : ℕ
+numbersPerPart = 3
+
+-- the numbers of a part
+abbrev pub partAt : Class → List ℕ → ℕ → Part
+partAt class numbers i = record { class = class; total = getD numbers i 0; used = getD numbers (i + 1) 0; size = getD numbers (i + 2) 0 }
+
+-- the parts of a plan in order
+abbrev pub planAt : List ℕ → Plan
+planAt numbers = record { points = partAt Points numbers 0; segments = partAt Segments numbers 3; triangles = partAt Triangles numbers 6 }

@@ -1,37 +1,17 @@
--- B's items as a list of places, or planned; which candidates of a listed item are settled. Serves inner contracts. Definitions only.
-use Prim.Native.Nat.{ℕ, _+_, _*_, _<_, _≤_}
+-- Which candidates of a listed item of B are settled, and when an item follows the one before it. Serves inner contracts. Definitions only.
+use Prim.Native.Nat.{ℕ, _+_, _<_}
 use mathlib.Core.Path.{_≡_}
 use mathlib.Core.Bool.{Bool, true, false}
 use mathlib.Core.List.{List}
 use mathlib.Core.Option.{Option}
-use lib.ListN.{length, getD}
+use lib.ListN.{getD}
 use lib.Ieee.{Float}
 use Rattle.primitives.specs.declared.Witness.{Witness}
-use Rattle.parts.specs.Stored.{storedRuns}
-use Rattle.items.specs.Items.{Item, itemsOf}
+use Rattle.items.specs.Items.{Item}
 use Rattle.items.specs.Repeats.{AllSettled, secondAfter}
 use Rattle.listing.specs.declared.Place.{Place}
-use Rattle.listing.specs.Rows.{floatsPerBox, numbersPerPlace, placeAt}
-use Rattle.listing.specs.Listing.{mostListed, listedItem, listedFrom, Entries}
-use Rattle.closest.specs.Blocks.{Plans}
-use Rattle.closest.specs.declared.Plan.{Plan}
-
--- ---- the items of a side
-
--- so many items have their boxes and places in the rows
-pub record HasEntries (count : ℕ) (floats boxes : List Float) (places : List ℕ) : Type 0 where
-  pub few : count ≤ mostListed
-  pub boxes-room : floatsPerBox * count ≤ length boxes
-  pub places-room : numbersPerPlace * count ≤ length places
-  pub entries : Entries count floats boxes places
-
--- the items are listed, or else planned
-pub record Indexed (plan : Plan) (table : List ℕ) (floats boxes : List Float) (starts : List ℕ) : Type 0 where
-  pub listed : 0 < plan .listed → HasEntries (plan .listed) floats boxes starts
-  pub items : 0 < plan .listed → listedFrom floats starts 0 (plan .listed) ≡ itemsOf (storedRuns table floats)
-  pub planned : plan .listed ≡ 0 → Plans plan table floats boxes starts
-
--- ---- what is settled
+use Rattle.listing.specs.Rows.{placeAt}
+use Rattle.listing.specs.Listing.{listedItem}
 
 -- where it is known of the k-th of count items, the witnesses that f gives of it are settled
 abbrev pub Known : (Item → List Witness) → Option Witness → List Bool → ℕ → List Float → List ℕ → Type 0

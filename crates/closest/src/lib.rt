@@ -24,8 +24,9 @@ ghost use Rattle.closest.specs.Closest.{noCloser, withItem, withEach, sw
 ghost use Rattle.closest.specs.Inner.{atZero};
 ghost use Rattle.closest.specs.Spans.{isOnePoint, itemsIn, itemsPast, RoomPast, itemTotal, Spanned};
 ghost use Rattle.closest.specs.Cover.{lowerOf, upperOf, coverOf, emptyCover};
-ghost use Rattle.closest.specs.Blocks.{numbersPerCursor, cursorNumbers, cursorAt, Blocks, Cut, Describes, Plans, Uncut, planWith};
-ghost use Rattle.closest.specs.Known.{HasEntries, Indexed, Known, MeasuredBefore, Follows};
+ghost use Rattle.closest.specs.Blocks.{numbersPerCursor, cursorNumbers, cursorAt, Blocks, Cut, Describes, Plans, Uncut, planWith, numbersPerPart, partAt, planAt};
+ghost use Rattle.closest.specs.Indexed.{HasEntries, Indexed};
+ghost use Rattle.closest.specs.Known.{Known, MeasuredBefore, Follows};
 
 // The closest pair of points, if both sides have an item.
 pub enum ClosestPair {
@@ -54,9 +55,8 @@ pub struct Part {
     pub size: usize,
 }
 
-// The items of a side: so many are listed, or if that is 0, those of its classes.
+// The classes of a side.
 pub struct Plan {
-    pub listed: usize,
     pub points: Part,
     pub segments: Part,
     pub triangles: Part,
@@ -357,7 +357,6 @@ fn plan_of(floats: &[f64], table: &[u32]) -> Plan
     ensures { λ p. ⌜ Uncut p (now (table .entry)) (now (floats .entry)) ⌝ }
 {
     Plan {
-        listed: 0,
         points: part_of(Class::Points, floats, table),
         segments: part_of(Class::Segments, floats, table),
         triangles: part_of(Class::Triangles, floats, table),
@@ -576,7 +575,32 @@ fn forget(known: &mut [bool; 16])
     *known = [false; 16];
 }
 
-// Item a with all items of B, unless it is skipped against the box of all of them.
+// The part of a class that three numbers of a plan stand for.
+fn part_at(class: Class, numbers: &[usize], i: usize) -> Part
+    requires { ⌜ i + numbersPerPart ≤ length (now numbers) ⌝ }
+    ensures { λ p. ⌜ p ≡ partAt class (now (numbers .entry)) i ⌝ }
+{
+    Part {
+        class,
+        total: numbers[i],
+        used: numbers[i + 1],
+        size: numbers[i + 2],
+    }
+}
+
+// The plan that its numbers stand for.
+fn plan_at(numbers: &[usize]) -> Plan
+    requires { ⌜ numbersPerPart * 3 ≤ length (now numbers) ⌝ }
+    ensures { λ p. ⌜ p ≡ planAt (now (numbers .entry)) ⌝ }
+{
+    Plan {
+        points: part_at(Class::Points, numbers, 0),
+        segments: part_at(Class::Segments, numbers, 3),
+        triangles: part_at(Class::Triangles, numbers, 6),
+    }
+}
+
+// Item a with all items of B, which are listed or else planned, unless it is skipped against the box of all of them.
 fn with_all(
     best: Best,
     stop: bool,
@@ -584,28 +608,38 @@ fn with_all(
     floats: &[f64],
     table: &[u32],
     all: Aabb,
-    plan: Plan,
+    listed: usize,
+    numbers: &[usize],
     boxes: &[f64],
     starts: &[usize],
     known: &mut [bool; 16],
 ) -> Best
     requires { ⌜ Sound best ⌝ }
     requires { ⌜ Laid (now table) (now floats) ⌝ }
-    requires { ⌜ Indexed plan (now table) (now floats) (now boxes) (now starts) ⌝ }
-    requires { ⌜ Known (firstBefore (itemOf a)) (bestOf best) (now known) (plan .listed) (now floats) (now starts) ⌝ }
+    requires { ⌜ Indexed listed (now numbers) (now table) (now floats) (now boxes) (now starts) ⌝ }
+    requires { ⌜ Known (firstBefore (itemOf a)) (bestOf best) (now known) listed (now floats) (now starts) ⌝ }
     ensures { λ r. ⌜ Keeps r (cond (noCloser (bestOf best) (leastSquaredGap (boxOfItem (itemOf a)) all)) (bestOf best) (withEach (itemOf a) (bestOf best) (itemsOf (storedRuns (now (table .entry)) (now (floats .entry)))))) ⌝ }
-    ensures { λ r. ⌜ Known (firstAfter (itemOf a)) (bestOf r) (now (known .exit)) (plan .listed) (now (floats .entry)) (now (starts .entry)) ⌝ }
+    ensures { λ r. ⌜ Known (firstAfter (itemOf a)) (bestOf r) (now (known .exit)) listed (now (floats .entry)) (now (starts .entry)) ⌝ }
 {
     let a_box = items::box_of(a);
     if no_closer(best, a_box.min_dist_sq(all)) {
         forget(known);
         return best;
     }
-    let listed = plan.listed;
     if 0 < listed {
         return with_list(best, stop, a, a_box, floats, listed, boxes, starts, known);
     }
-    with_classes(best, stop, a, a_box, floats, table, plan, boxes, starts)
+    with_classes(
+        best,
+        stop,
+        a,
+        a_box,
+        floats,
+        table,
+        plan_at(numbers),
+        boxes,
+        starts,
+    )
 }
 
 // The items of a run of n points of A, each with all items of B.
@@ -619,14 +653,15 @@ fn from_run(
     floats2: &[f64],
     table2: &[u32],
     all: Aabb,
-    plan: Plan,
+    listed: usize,
+    numbers: &[usize],
     boxes: &[f64],
     starts: &[usize],
 ) -> Best
     requires { ⌜ Sound best ⌝ }
     requires { ⌜ floatsPerCoordinate * (at + n) ≤ length (now floats1) ⌝ }
     requires { ⌜ Laid (now table2) (now floats2) ⌝ }
-    requires { ⌜ Indexed plan (now table2) (now floats2) (now boxes) (now starts) ⌝ }
+    requires { ⌜ Indexed listed (now numbers) (now table2) (now floats2) (now boxes) (now starts) ⌝ }
     ensures { λ r. ⌜ Keeps r (sweepOf all (itemsOf (storedRuns (now (table2 .entry)) (now (floats2 .entry)))) (bestOf best) (itemsBy class (pointsFrom (now (floats1 .entry)) at n))) ⌝ }
 {
     let mut seen = best;
@@ -644,7 +679,8 @@ fn from_run(
             floats2,
             table2,
             all,
-            plan,
+            listed,
+            numbers,
             boxes,
             starts,
             &mut known,
@@ -664,14 +700,15 @@ fn from_class(
     floats2: &[f64],
     table2: &[u32],
     all: Aabb,
-    plan: Plan,
+    listed: usize,
+    numbers: &[usize],
     boxes: &[f64],
     starts: &[usize],
 ) -> Best
     requires { ⌜ Sound best ⌝ }
     requires { ⌜ Laid (now table1) (now floats1) ⌝ }
     requires { ⌜ Laid (now table2) (now floats2) ⌝ }
-    requires { ⌜ Indexed plan (now table2) (now floats2) (now boxes) (now starts) ⌝ }
+    requires { ⌜ Indexed listed (now numbers) (now table2) (now floats2) (now boxes) (now starts) ⌝ }
     ensures { λ r. ⌜ Keeps r (sweepOf all (itemsOf (storedRuns (now (table2 .entry)) (now (floats2 .entry)))) (bestOf best) (classItems class (storedRuns (now (table1 .entry)) (now (floats1 .entry))))) ⌝ }
 {
     let mut seen = best;
@@ -691,7 +728,8 @@ fn from_class(
                 floats2,
                 table2,
                 all,
-                plan,
+                listed,
+                numbers,
                 boxes,
                 starts,
             );
@@ -711,14 +749,15 @@ fn sweep(
     floats2: &[f64],
     table2: &[u32],
     all: Aabb,
-    plan: Plan,
+    listed: usize,
+    numbers: &[usize],
     boxes: &[f64],
     starts: &[usize],
 ) -> Best
     requires { ⌜ Sound best ⌝ }
     requires { ⌜ Laid (now table1) (now floats1) ⌝ }
     requires { ⌜ Laid (now table2) (now floats2) ⌝ }
-    requires { ⌜ Indexed plan (now table2) (now floats2) (now boxes) (now starts) ⌝ }
+    requires { ⌜ Indexed listed (now numbers) (now table2) (now floats2) (now boxes) (now starts) ⌝ }
     ensures { λ r. ⌜ Keeps r (sweepOf all (itemsOf (storedRuns (now (table2 .entry)) (now (floats2 .entry)))) (bestOf best) (itemsOf (storedRuns (now (table1 .entry)) (now (floats1 .entry))))) ⌝ }
 {
     let points = from_class(
@@ -730,7 +769,8 @@ fn sweep(
         floats2,
         table2,
         all,
-        plan,
+        listed,
+        numbers,
         boxes,
         starts,
     );
@@ -743,7 +783,8 @@ fn sweep(
         floats2,
         table2,
         all,
-        plan,
+        listed,
+        numbers,
         boxes,
         starts,
     );
@@ -756,7 +797,8 @@ fn sweep(
         floats2,
         table2,
         all,
-        plan,
+        listed,
+        numbers,
         boxes,
         starts,
     )
@@ -781,47 +823,25 @@ fn plan_with(plan: Plan, part: Part) -> Plan
     ensures { λ r. ⌜ r ≡ planWith (part .class) plan part ⌝ }
 {
     let class = part.class;
-    let listed = plan.listed;
     let points = plan.points;
     let segments = plan.segments;
     let triangles = plan.triangles;
     match class {
         Class::Points => Plan {
-            listed,
             points: part,
             segments,
             triangles,
         },
         Class::Segments => Plan {
-            listed,
             points,
             segments: part,
             triangles,
         },
         Class::Triangles => Plan {
-            listed,
             points,
             segments,
             triangles: part,
         },
-    }
-}
-
-// A plan of so many listed items: its parts are not looked at.
-fn listed_plan(listed: usize) -> Plan
-    ensures { λ p. ⌜ p .listed ≡ listed ⌝ }
-{
-    let part = Part {
-        class: Class::Points,
-        total: 0,
-        used: 0,
-        size: 0,
-    };
-    Plan {
-        listed,
-        points: part,
-        segments: part,
-        triangles: part,
     }
 }
 
@@ -843,6 +863,20 @@ fn sweep_many(
     let mut starts = [0usize; 384];
     let part = cut_part(largest(plan), floats2, table2, &mut boxes, &mut starts);
     let cut = plan_with(plan, part);
+    let points = cut.points;
+    let segments = cut.segments;
+    let triangles = cut.triangles;
+    let numbers = [
+        points.total,
+        points.used,
+        points.size,
+        segments.total,
+        segments.used,
+        segments.size,
+        triangles.total,
+        triangles.used,
+        triangles.size,
+    ];
     sweep(
         items::none_yet(),
         stop,
@@ -851,7 +885,8 @@ fn sweep_many(
         floats2,
         table2,
         all,
-        cut,
+        0,
+        &numbers,
         &boxes,
         &starts,
     )
@@ -865,6 +900,7 @@ fn from_all(stop: bool, floats1: &[f64], table1: &[u32], floats2: &[f64], table2
 {
     let mut boxes = [0.0; 96];
     let mut places = [0usize; 48];
+    let unplanned = [0usize; 1];
     let list = listing::list_all(floats2, table2, &mut boxes, &mut places);
     let listed = list.count;
     let all = list.all;
@@ -880,7 +916,8 @@ fn from_all(stop: bool, floats1: &[f64], table1: &[u32], floats2: &[f64], table2
             floats2,
             table2,
             all,
-            listed_plan(listed),
+            listed,
+            &unplanned,
             &boxes,
             &places,
         );

@@ -2,7 +2,7 @@
 use mathlib.Core.Path.{refl}
 use native.Mathlib.Omega.{arith}
 use borrow.Author.Needs.{needs}
-use Rattle.closest.proofs.Known.{lists-indexed, listed-some, listed-nothing}
+use Rattle.closest.proofs.Indexed.{lists-indexed, listed-some, listed-nothing}
 use Rattle.closest.proofs.from_all.Statement.{statement}
 use Rattle.closest.proofs.from_all.Tie as tie
 
@@ -24,17 +24,17 @@ returns c = rw (listed-nothing _ _ _ _ _ (c .before .before .before .before .bef
 none-yet-requires-2 : tie.Need-none-yet-requires-2
 none-yet-requires-2 c κs = search needs
 
-listed-plan-requires : tie.Need-listed-plan-requires
-listed-plan-requires c κs = search needs
-
 slice-aggregate-sweep : tie.Need-slice-aggregate-sweep
 slice-aggregate-sweep c = search needs
 
 slice-aggregate-sweep-2 : tie.Need-slice-aggregate-sweep-2
 slice-aggregate-sweep-2 c = search needs
 
+slice-aggregate-sweep-3 : tie.Need-slice-aggregate-sweep-3
+slice-aggregate-sweep-3 c = search needs
+
 sweep-requires : tie.Need-sweep-requires
-sweep-requires c κs = (c .before .before .before .none-yet2 .ensures .sound, (c .before .before .before .before .before .before .before .before .before .before .before .before .before .before .before .before .pre .0, (c .before .before .before .before .before .before .before .before .before .before .before .before .before .before .before .before .pre .1, lists-indexed _ _ _ _ _ (c .before .before .before .before .before .before .before .before .before .list-all .ensures) _ _ refl (c .before .before .listed-plan .ensures) (omega arith) (omega arith) (search needs) (search needs))))
+sweep-requires c κs = (c .before .before .before .none-yet2 .ensures .sound, (c .before .before .before .before .before .before .before .before .before .before .before .before .before .before .before .before .pre .0, (c .before .before .before .before .before .before .before .before .before .before .before .before .before .before .before .before .pre .1, lists-indexed _ _ _ _ _ (c .before .before .before .before .before .before .before .before .before .list-all .ensures) _ _ refl (omega arith) (omega arith) (search needs) (search needs))))
 
 returns-2 : tie.Need-returns-2
 returns-2 c = rw (listed-some _ _ _ _ _ (c .before .before .before .before .before .before .before .before .before .before .list-all .ensures) _ (omega arith), ← c .before .before .before .before .none-yet2 .ensures .same) (c .sweep .ensures)
@@ -55,9 +55,9 @@ from-all-spec =
     none-yet-requires
     returns
     none-yet-requires-2
-    listed-plan-requires
     slice-aggregate-sweep
     slice-aggregate-sweep-2
+    slice-aggregate-sweep-3
     sweep-requires
     returns-2
     sweep-many-requires

@@ -18,19 +18,19 @@ use Rattle.closest.proofs.from_class.Statement.{statement}
 use Rattle.closest.proofs.from_class.Tie as tie
 
 abbrev Inv-loop : tie.InvT-loop
-Inv-loop stop class floats1 table1 floats2 table2 all plan boxes starts seen₀ count at₀ r₀ seen at r = RoomFrom table1 floats1 r at
+Inv-loop stop class floats1 table1 floats2 table2 all listed numbers boxes starts seen₀ count at₀ r₀ seen at r = RoomFrom table1 floats1 r at
     × Sound seen
     × (sweepOf all (itemsOf (storedRuns table2 floats2)) (bestOf seen) (classItems class (runsFrom floats1 at (drop (numbersPerRun * r) table1))) ≡ sweepOf all (itemsOf (storedRuns table2 floats2)) (bestOf seen₀) (classItems class (storedRuns table1 floats1)))
 
 abbrev μ-loop : tie.MeasureT-loop
-μ-loop stop class floats1 table1 floats2 table2 all plan boxes starts seen₀ count at₀ r₀ seen at r = runCount table1 - r
+μ-loop stop class floats1 table1 floats2 table2 all listed numbers boxes starts seen₀ count at₀ r₀ seen at r = runCount table1 - r
 
 run-count-requires : tie.Need-run-count-requires Inv-loop μ-loop
 run-count-requires c κs = search needs
 
 loop-holds : tie.Need-loop-holds Inv-loop μ-loop
 unfolding storedRuns
-loop-holds c = (room-start (c .before .before .before .before .before .before .before .args .table1 .now) (c .before .before .before .before .before .before .before .args .floats1 .now) (c .before .before .before .before .before .before .before .pre .1 .0), c .before .before .before .before .before .before .before .pre .0, refl)
+loop-holds c = (room-start (c .before .before .before .before .before .before .before .before .args .table1 .now) (c .before .before .before .before .before .before .before .before .args .floats1 .now) (c .before .before .before .before .before .before .before .before .pre .1 .0), c .before .before .before .before .before .before .before .before .pre .0, refl)
 
 count-at-requires : tie.Need-count-at-requires Inv-loop μ-loop
 count-at-requires c κs = omega (arith, c .before .before .run-count .ensures)
@@ -42,12 +42,12 @@ is-of-class-requires : tie.Need-is-of-class-requires Inv-loop μ-loop
 is-of-class-requires c κs = search needs
 
 from-run-requires : tie.Need-from-run-requires Inv-loop μ-loop
-from-run-requires c κs = let args = c .before .before .before .before .before .before .before .before .before .before .before .before .before .args in
+from-run-requires c κs = let args = c .before .before .before .before .before .before .before .before .before .before .before .before .before .before .args in
     let h : c .before .before .before .before .before .loop .r < runCount (args .table1 .now) = omega (arith, c .before .before .before .before .before .before .run-count .ensures) in
-    (c .before .before .before .before .before .loop .inv .1, (room-run (args .table1 .now) (args .floats1 .now) (c .before .before .before .before .before .loop .r) (c .before .before .before .before .before .loop .at) _ h (c .before .before .before .count-at .ensures) (c .before .before .before .before .before .loop .inv .0), c .before .before .before .before .before .before .before .before .before .before .before .before .before .pre .1 .1))
+    (c .before .before .before .before .before .loop .inv .1, (room-run (args .table1 .now) (args .floats1 .now) (c .before .before .before .before .before .loop .r) (c .before .before .before .before .before .loop .at) _ h (c .before .before .before .count-at .ensures) (c .before .before .before .before .before .loop .inv .0), c .before .before .before .before .before .before .before .before .before .before .before .before .before .before .pre .1 .1))
 
 add-at : tie.Need-add-at Inv-loop μ-loop
-add-at c = let args = c .before .before .before .before .before .before .before .before .before .before .before .before .before .args in
+add-at c = let args = c .before .before .before .before .before .before .before .before .before .before .before .before .before .before .args in
     let h : c .before .before .before .before .before .loop .r < runCount (args .table1 .now) = omega (arith, c .before .before .before .before .before .before .run-count .ensures) in
     omega (arith, room-run (args .table1 .now) (args .floats1 .now) (c .before .before .before .before .before .loop .r) (c .before .before .before .before .before .loop .at) (c .before .before .before .count-at .result) h (c .before .before .before .count-at .ensures) (c .before .before .before .before .before .loop .inv .0))
 
@@ -58,7 +58,7 @@ loop-less : tie.Need-loop-less Inv-loop μ-loop
 loop-less c = omega (arith, c .before .before .before .before .before .before .run-count .ensures)
 
 loop-again : tie.Need-loop-again Inv-loop μ-loop
-loop-again c = let args = c .before .before .before .before .before .before .before .before .before .before .before .before .before .args in
+loop-again c = let args = c .before .before .before .before .before .before .before .before .before .before .before .before .before .before .args in
     let loop = c .before .before .before .before .before .loop in
     let h : loop .r < runCount (args .table1 .now) = omega (arith, c .before .before .before .before .before .before .run-count .ensures) in
     let f = sweepOf (args .all) (itemsOf (storedRuns (args .table2 .now) (args .floats2 .now))) in (
@@ -72,7 +72,7 @@ loop-again c = let args = c .before .before .before .before .before .before .bef
 
 returns : tie.Need-returns Inv-loop μ-loop
 unfolding sweepOf skipping
-returns c = let args = c .before .before .before .before .before .before .before .before .before .args in
+returns c = let args = c .before .before .before .before .before .before .before .before .before .before .args in
     let loop = c .before .loop in
     let h : runCount (args .table1 .now) ≤ loop .r = omega (arith, c .before .before .run-count .ensures) in
     record { same = sym (ap (sweepOf (args .all) (itemsOf (storedRuns (args .table2 .now) (args .floats2 .now))) _) (no-items (args .class) (args .floats1 .now) (loop .at) (args .table1 .now) (loop .r) h)) ∙ loop .inv .2; sound = loop .inv .1 }

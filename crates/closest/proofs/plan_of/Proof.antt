@@ -1,5 +1,4 @@
 -- `closest::plan_of` meets its contract. Assumes nothing.
-use mathlib.Core.Path.{refl}
 use borrow.Author.Needs.{needs}
 use Rattle.closest.proofs.plan_of.Statement.{statement}
 use Rattle.closest.proofs.plan_of.Tie as tie
@@ -14,7 +13,7 @@ part-of-requires-3 : tie.Need-part-of-requires-3
 part-of-requires-3 c κs = search needs
 
 returns : tie.Need-returns
-returns c = λ boxes starts. record { unlisted = refl; points = c .before .before .part-of .ensures boxes starts; segments = c .before .part-of2 .ensures boxes starts; triangles = c .part-of3 .ensures boxes starts }
+returns c = λ boxes starts. record { points = c .before .before .part-of .ensures boxes starts; segments = c .before .part-of2 .ensures boxes starts; triangles = c .part-of3 .ensures boxes starts }
 
 pub plan-of-spec : {M : Type 1} → statement M
 plan-of-spec = tie.close (tie.spec part-of-requires part-of-requires-2 part-of-requires-3 returns)

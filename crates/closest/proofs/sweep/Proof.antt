@@ -6,13 +6,13 @@ use Rattle.closest.proofs.sweep.Statement.{statement}
 use Rattle.closest.proofs.sweep.Tie as tie
 
 from-class-requires : tie.Need-from-class-requires
-from-class-requires c κs = c .before .before .before .before .before .before .pre
+from-class-requires c κs = c .before .before .before .before .before .before .before .pre
 
 from-class-requires-2 : tie.Need-from-class-requires-2
-from-class-requires-2 c κs = (c .from-class .ensures .sound, c .before .before .before .before .before .before .before .pre .1)
+from-class-requires-2 c κs = (c .from-class .ensures .sound, c .before .before .before .before .before .before .before .before .pre .1)
 
 from-class-requires-3 : tie.Need-from-class-requires-3
-from-class-requires-3 c κs = (c .from-class2 .ensures .sound, c .before .before .before .before .before .before .before .before .pre .1)
+from-class-requires-3 c κs = (c .from-class2 .ensures .sound, c .before .before .before .before .before .before .before .before .before .pre .1)
 
 returns : tie.Need-returns
 unfolding itemsOf

@@ -1,7 +1,7 @@
 -- `closest::sweep_many` meets its contract. Assumes nothing.
 use borrow.Author.Needs.{needs}
 use Rattle.closest.proofs.Blocks.{plans-with}
-use Rattle.closest.proofs.Known.{plans-indexed}
+use Rattle.closest.proofs.Indexed.{plans-indexed}
 use Rattle.closest.proofs.sweep_many.Statement.{statement}
 use Rattle.closest.proofs.sweep_many.Tie as tie
 
@@ -32,11 +32,14 @@ slice-aggregate-sweep c = search needs
 slice-aggregate-sweep-2 : tie.Need-slice-aggregate-sweep-2
 slice-aggregate-sweep-2 c = search needs
 
+slice-aggregate-sweep-3 : tie.Need-slice-aggregate-sweep-3
+slice-aggregate-sweep-3 c = search needs
+
 sweep-requires : tie.Need-sweep-requires
-sweep-requires c κs = (c .before .before .none-yet .ensures .sound, (c .before .before .before .before .before .before .before .before .before .before .before .before .before .before .before .pre .0, (c .before .before .before .before .before .before .before .before .before .before .before .before .before .before .before .pre .1, rw (c .before .before .before .plan-with .ensures) (plans-indexed _ (plans-with (c .before .before .before .before .before .before .before .before .before .before .plan-of .result) (c .before .before .before .before .before .before .cut-part .result) (c .before .before .before .before .before .before .before .before .before .before .plan-of .ensures _ _) (c .before .before .before .before .before .before .cut-part .ensures))))))
+sweep-requires c κs = (c .before .before .before .none-yet .ensures .sound, (c .before .before .before .before .before .before .before .before .before .before .before .before .before .before .before .before .before .before .before .pre .0, (c .before .before .before .before .before .before .before .before .before .before .before .before .before .before .before .before .before .before .before .pre .1, plans-indexed (c .before .before .before .before .before .before .before .plan-with .result) (rw (c .before .before .before .before .before .before .before .plan-with .ensures) (plans-with (c .before .before .before .before .before .before .before .before .before .before .before .before .before .before .plan-of .result) (c .before .before .before .before .before .before .before .before .before .before .cut-part .result) (c .before .before .before .before .before .before .before .before .before .before .before .before .before .before .plan-of .ensures _ _) (c .before .before .before .before .before .before .before .before .before .before .cut-part .ensures))))))
 
 returns : tie.Need-returns
-returns c = rw (← c .before .before .before .none-yet .ensures .same) (c .sweep .ensures)
+returns c = rw (← c .before .before .before .before .none-yet .ensures .same) (c .sweep .ensures)
 
 pub sweep-many-spec : {M : Type 1} → statement M
 sweep-many-spec =
@@ -51,5 +54,6 @@ sweep-many-spec =
     none-yet-requires
     slice-aggregate-sweep
     slice-aggregate-sweep-2
+    slice-aggregate-sweep-3
     sweep-requires
     returns)

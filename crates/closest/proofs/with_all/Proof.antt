@@ -20,25 +20,28 @@ forget-requires c κs = search needs
 
 returns : tie.Need-returns
 returns c = (
-  record { same = rw (← c .before .before .before .before .before .box-of .ensures, ← c .before .before .before .before .min-dist-sq .ensures, ← c .before .before .before .no-closer .ensures, c .before .before .if1 .taken); sound = c .before .before .before .before .before .before .before .before .before .before .pre .0 },
+  record { same = rw (← c .before .before .before .before .before .box-of .ensures, ← c .before .before .before .before .min-dist-sq .ensures, ← c .before .before .before .no-closer .ensures, c .before .before .if1 .taken); sound = c .before .before .before .before .before .before .before .before .before .before .before .pre .0 },
   λ k h e. absurd (false≢true (sym (c .forget .ensures k) ∙ e)),
 )
 
 with-list-requires : tie.Need-with-list-requires
-with-list-requires c κs = (c .before .before .before .before .before .before .before .before .before .before .pre .0, (c .before .before .before .before .before .box-of .ensures, (c .before .before .before .before .before .before .before .before .before .before .pre .1 .1 .0 .listed (c .before .if2 .taken), c .before .before .before .before .before .before .before .before .before .before .pre .1 .1 .1)))
+with-list-requires c κs = (c .before .before .before .before .before .before .before .before .before .before .before .pre .0, (c .before .before .before .before .before .box-of .ensures, (c .before .before .before .before .before .before .before .before .before .before .before .pre .1 .1 .0 .entries (c .before .if2 .taken), c .before .before .before .before .before .before .before .before .before .before .before .pre .1 .1 .1)))
 
 returns-2 : tie.Need-returns-2
 returns-2 c = (
-  rw (← c .before .before .before .before .before .before .box-of .ensures, ← c .before .before .before .before .before .min-dist-sq .ensures, ← c .before .before .before .before .no-closer .ensures, c .before .before .before .if1 .left, ← c .before .before .before .before .before .before .before .before .before .before .before .pre .1 .1 .0 .items (c .before .before .if2 .taken)) (c .with-list .ensures .0),
+  rw (← c .before .before .before .before .before .before .box-of .ensures, ← c .before .before .before .before .before .min-dist-sq .ensures, ← c .before .before .before .before .no-closer .ensures, c .before .before .before .if1 .left, ← c .before .before .before .before .before .before .before .before .before .before .before .before .pre .1 .1 .0 .items (c .before .before .if2 .taken)) (c .with-list .ensures .0),
   c .with-list .ensures .1,
 )
 
+plan-at-requires : tie.Need-plan-at-requires
+plan-at-requires c κs = c .before .before .before .before .before .before .before .before .before .before .pre .1 .1 .0 .room (omega arith)
+
 with-classes-requires : tie.Need-with-classes-requires
-with-classes-requires c κs = (c .before .before .before .before .before .before .before .before .before .pre .0, (c .before .before .before .before .box-of .ensures, (c .before .before .before .before .before .before .before .before .before .pre .1 .0, c .before .before .before .before .before .before .before .before .before .pre .1 .1 .0 .planned (omega arith))))
+with-classes-requires c κs = (c .before .before .before .before .before .before .before .before .before .before .before .pre .0, (c .before .before .before .before .before .box-of .ensures, (c .before .before .before .before .before .before .before .before .before .before .before .pre .1 .0, rw (c .plan-at .ensures) (c .before .before .before .before .before .before .before .before .before .before .before .pre .1 .1 .0 .planned (omega arith)))))
 
 returns-3 : tie.Need-returns-3
 returns-3 c = (
-  rw (← c .before .before .before .before .before .box-of .ensures, ← c .before .before .before .before .min-dist-sq .ensures, ← c .before .before .before .no-closer .ensures, c .before .before .if1 .left) (c .with-classes .ensures),
+  rw (← c .before .before .before .before .before .before .box-of .ensures, ← c .before .before .before .before .before .min-dist-sq .ensures, ← c .before .before .before .before .no-closer .ensures, c .before .before .before .if1 .left) (c .with-classes .ensures),
   λ k h e. absurd (omega arith),
 )
 
@@ -53,5 +56,6 @@ with-all-spec =
     returns
     with-list-requires
     returns-2
+    plan-at-requires
     with-classes-requires
     returns-3)
