@@ -1,20 +1,19 @@
 -- Folds that skip, over joined lists and over steps that change nothing; the sweep, list after list. Assumes nothing.
 use mathlib.Core.Path.{_≡_, refl, ap, _∙_}
 use mathlib.Core.Bool.{Bool, true, false, _&&_, cond, false≢true}
-use mathlib.Core.List.{List, [], _∷_, _++_, foldl}
+use mathlib.Core.List.{List, [], _∷_, _++_}
 use mathlib.Core.Option.{Option, none, some}
 use lib.Ieee.{lt}
 use Rattle.primitives.specs.declared.Witness.{Witness}
 use Rattle.primitives.specs.declared.Aabb.{Aabb}
-use Rattle.primitives.specs.Boxes.{unionOf, leastSquaredGap}
+use Rattle.primitives.specs.Boxes.{leastSquaredGap}
 use Rattle.extremes.specs.Sweeps.{skipping, shorter}
 use Rattle.extremes.proofs.Lists.{each-weaken}
 use Rattle.extremes.proofs.Taking.{unbeaten-row}
 use Rattle.items.specs.Items.{Item, boxOfItem}
 use Rattle.items.specs.Candidates.{candidatesOf}
 use Rattle.items.proofs.NotBelowZero.{Distant, candidates-not-below}
-use Rattle.listing.specs.Listing.{uniteOne, boxOfAll}
-use Rattle.closest.specs.Closest.{uniteItem, boxOfItems, noCloser, withItem, withEach, sweepOf}
+use Rattle.closest.specs.Closest.{noCloser, withItem, withEach, sweepOf}
 use Rattle.closest.specs.Inner.{atZero}
 
 module _ {S X : Type 0} (skip : S → X → Bool) (step : S → X → S) where
@@ -47,17 +46,6 @@ each-none a s l e = rw e
 pub sweep-append : (all : Aabb) (rs : List Item) (s : Option Witness) (l m : List Item) → sweepOf all rs (sweepOf all rs s l) m ≡ sweepOf all rs s (l ++ m)
 unfolding sweepOf
 sweep-append all rs s l m = skipping-append _ _ s l m
-
--- the box of all items as a listing has it
-box-united : (s : Option Aabb) (is : List Item) → foldl uniteOne s is ≡ foldl uniteItem s is
-unfolding uniteOne uniteItem
-box-united s [] = refl
-box-united none (i ∷ is) = box-united (some (boxOfItem i)) is
-box-united (some box) (i ∷ is) = box-united (some (unionOf box (boxOfItem i))) is
-
-pub box-listed : (is : List Item) → boxOfAll is ≡ boxOfItems is
-unfolding boxOfAll boxOfItems
-box-listed is = box-united none is
 
 -- one item, and those after it
 pub each-next : (a b : Item) (box : Aabb) (s t : Option Witness) → box ≡ boxOfItem a → t ≡ cond (noCloser s (leastSquaredGap box (boxOfItem b))) s (withItem a s b)

@@ -18,7 +18,6 @@ use Rattle.closest.specs.Blocks.{Describes, Plans}
 use Rattle.closest.specs.Indexed.{Indexed}
 use Rattle.closest.specs.declared.Part.{Part}
 use Rattle.closest.specs.declared.Plan.{Plan}
-use Rattle.closest.proofs.Folds.{box-listed}
 
 -- the numbers of a plan
 abbrev planNumbers : Plan → List ℕ
@@ -62,8 +61,8 @@ module _ (list : Listing) (rs : List Item) (floats boxes : List Float) (places :
   -- the sweep by the box of the listing
   pub listed-some : (ls : List Item) → 0 < list .count → closestOf ls rs ≡ sweepOf (list .all) rs none ls
   unfolding closestOf closestWithin
-  listed-some ls h = rw (← box-listed rs, ← lists .box, lt-ltb 0 (list .count) h)
+  listed-some ls h = rw (← lists .box, lt-ltb 0 (list .count) h)
 
   pub listed-nothing : (ls : List Item) → list .count ≡ 0 → closestOf ls rs ≡ none
   unfolding closestOf closestWithin
-  listed-nothing ls e = rw (← box-listed rs, ← lists .box, e)
+  listed-nothing ls e = rw (← lists .box, e)

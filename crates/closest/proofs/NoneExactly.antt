@@ -7,9 +7,9 @@ use mathlib.Core.Option.{Option, none, some, Option·none-ne-some}
 use Rattle.primitives.specs.declared.Witness.{Witness}
 use Rattle.primitives.specs.declared.Aabb.{Aabb}
 use Rattle.extremes.specs.Sweeps.{skipping, shorter, taking}
-use Rattle.items.specs.Items.{Item, point, segment, triangle}
+use Rattle.items.specs.Items.{Item, point, segment, triangle, uniteItem, boxOfItems}
 use Rattle.items.specs.Candidates.{candidatesOf}
-use Rattle.closest.specs.Closest.{uniteItem, boxOfItems, noCloser, withItem, withEach, sweepOf, closestWithin, closestOf}
+use Rattle.closest.specs.Closest.{noCloser, withItem, withEach, sweepOf, closestWithin, closestOf}
 
 -- there is something
 data There {X : Type 0} : Option X → Type 0 where

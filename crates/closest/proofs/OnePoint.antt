@@ -15,9 +15,9 @@ use Rattle.primitives.specs.declared.Aabb.{Aabb}
 use Rattle.parts.specs.Stored.{pointAt, pointsFrom, storedRuns, runCount, kindAt, countAt, Laid}
 use Rattle.parts.proofs.Turns.{runs-next, runs-none, count-next}
 use Rattle.primitives.specs.Boxes.{unionOf}
-use Rattle.items.specs.Items.{Item, point, pointsOf, itemsOfKind, itemsOf, boxOfItem}
+use Rattle.items.specs.Items.{Item, point, pointsOf, itemsOfKind, itemsOf, boxOfItem, uniteItem, boxOfItems}
 use Rattle.extremes.specs.Sweeps.{skipping}
-use Rattle.closest.specs.Closest.{uniteItem, boxOfItems, noCloser, withEach, sweepOf, closestWithin, closestOf}
+use Rattle.closest.specs.Closest.{noCloser, withEach, sweepOf, closestWithin, closestOf}
 use Rattle.closest.specs.Spans.{isOnePoint}
 
 both : (a b : Bool) → (a && b) ≡ true → (a ≡ true) × (b ≡ true)

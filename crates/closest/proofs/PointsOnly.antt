@@ -15,10 +15,10 @@ use Rattle.extremes.proofs.ClosestPoints.{closestPoints, shortest-line-of}
 use Rattle.extremes.proofs.PointsOnly as items
 use Rattle.coords.specs.Parts.{Run, mapRuns, verticesOf}
 use Rattle.coords.proofs.Parts.{vertices-map}
-use Rattle.items.specs.Items.{Item, point, itemsOf, boxOfItem, PointRuns}
+use Rattle.items.specs.Items.{Item, point, itemsOf, boxOfItem, PointRuns, uniteItem, boxOfItems}
 use Rattle.items.proofs.PointRuns.{items-of-points, point-runs-mapped}
 use Rattle.items.specs.Candidates.{candidatesOf}
-use Rattle.closest.specs.Closest.{uniteItem, boxOfItems, noCloser, withItem, withEach, sweepOf, closestWithin, closestOf}
+use Rattle.closest.specs.Closest.{noCloser, withItem, withEach, sweepOf, closestWithin, closestOf}
 
 box-is : (p : Point) → boxOfItem (point p) ≡ boxOfPoint p
 unfolding boxOfItem

@@ -44,7 +44,7 @@ pub record Block (k size : ℕ) (class : Class) (table : List ℕ) (floats : Lis
 abbrev pub Blocks : ℕ → ℕ → Class → List ℕ → List Float → List Float → List ℕ → Type 0
 Blocks n size class table floats boxes starts = (k : ℕ) → k < n → Block k size class table floats boxes starts
 
--- a class is cut into so many blocks of size items
+-- a class is cut into so many blocks of size items, of which the last ones may have fewer
 pub record Cut (used size : ℕ) (class : Class) (table : List ℕ) (floats : List Float) (boxes : List Float) (starts : List ℕ) : Type 0 where
   pub all : itemTotal class table ≤ used * size
   pub boxes-room : floatsPerBox * used ≤ length boxes
@@ -59,7 +59,7 @@ pub record Describes (part : Part) (class : Class) (table : List ℕ) (floats : 
   pub total-is : part .total ≡ itemTotal class table
   pub cut : 0 < part .used → Cut (part .used) (part .size) class table floats boxes starts
 
--- the parts are of the classes in order
+-- the parts are of the classes in order; blocks start at row 0, so at most one class is cut
 pub record Plans (plan : Plan) (table : List ℕ) (floats : List Float) (boxes : List Float) (starts : List ℕ) : Type 0 where
   pub points : Describes (plan .points) Points table floats boxes starts
   pub segments : Describes (plan .segments) Segments table floats boxes starts
@@ -69,7 +69,7 @@ pub record Plans (plan : Plan) (table : List ℕ) (floats : List Float) (boxes :
 abbrev pub Uncut : Plan → List ℕ → List Float → Type 0
 Uncut plan table floats = (boxes : List Float) (starts : List ℕ) → Plans plan table floats boxes starts
 
--- the plan with another part for the part's class
+-- the plan with another part for a class
 abbrev pub planWith : Class → Plan → Part → Plan
 planWith Points plan part = record { points = part; segments = plan .segments; triangles = plan .triangles }
 planWith Segments plan part = record { points = plan .points; segments = part; triangles = plan .triangles }

@@ -5,21 +5,12 @@ use mathlib.Core.Option.{Option, none, some}
 use lib.Ieee.{Float, binary64, mul, le}
 use Rattle.primitives.specs.declared.Witness.{Witness}
 use Rattle.primitives.specs.declared.Aabb.{Aabb}
-use Rattle.primitives.specs.Boxes.{unionOf, leastSquaredGap}
+use Rattle.primitives.specs.Boxes.{leastSquaredGap}
 use Rattle.extremes.specs.Sweeps.{skipping, shorter, taking, oneMinusSlack}
-use Rattle.items.specs.Items.{Item, boxOfItem}
+use Rattle.items.specs.Items.{Item, boxOfItem, boxOfItems}
 use Rattle.items.specs.Candidates.{candidatesOf}
 use Rattle.closest.specs.declared.ClosestPair.{ClosestPair}
 use Rattle.closest.specs.declared.ClosestPair.the-variants.{Nothing, Found}
-
--- the box of the items so far, with one more in it
-unfoldable pub uniteItem : Option Aabb → Item → Option Aabb
-uniteItem none i = some (boxOfItem i)
-uniteItem (some box) i = some (unionOf box (boxOfItem i))
-
--- the box of all items; none if there is no item
-unfoldable pub boxOfItems : List Item → Option Aabb
-boxOfItems is = foldl uniteItem none is
 
 -- the skip: best exists and least squared gap times (1 - 2^-49) is at least best squared
 unfoldable pub noCloser : Option Witness → Float → Bool

@@ -1,4 +1,4 @@
--- A box that covers others: one box test on it decides theirs, so that the sweep passes over a block of items at once. Definitions only.
+-- A box that covers others: where it is passed over, so is each of them, a whole block of items at once. Serves inner contracts. Definitions only.
 use mathlib.Core.Path.{_≡_}
 use mathlib.Core.Logic.{_⊎_}
 use mathlib.Core.Bool.{true, false, cond}

@@ -37,7 +37,7 @@ itemsPast class table floats r at j = drop j (classItems class (runsFrom floats 
 abbrev pub RoomPast : List ℕ → List Float → ℕ → ℕ → Type 0
 RoomPast table floats r at = floatsPerCoordinate * (at + pointCount (drop (numbersPerRun * r) table)) ≤ length floats
 
--- a cursor stands at the items of a class but for the first n
+-- a cursor stands at the items of a class but for the first n: from it on the same items follow, and there is room for them
 pub record Reaches (cursor : Cursor) (class : Class) (table : List ℕ) (floats : List Float) (n : ℕ) : Type 0 where
   pub room : RoomPast table floats (cursor .r) (cursor .at)
   pub items : itemsPast class table floats (cursor .r) (cursor .at) (cursor .j) ≡ drop n (classItems class (storedRuns table floats))
