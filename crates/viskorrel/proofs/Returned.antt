@@ -3,8 +3,8 @@ use Prim.Native.Nat.{ℕ}
 use mathlib.Core.Path.{_≡_}
 use mathlib.Core.List.{List}
 use Rattle.operands.specs.Operands.{Workspaces}
-use Rattle.threed_metric.specs.Answers.{Report}
-use Rattle.threed_metric.specs.Operations.{Outcome, outcome}
+use Rattle.outcomes.specs.Answers.{Report}
+use Rattle.outcomes.specs.Operations.{Outcome, outcome}
 use Rattle.viskorrel.specs.Replies.{replyOf, returned, returnedOf}
 use Rattle.viskorrel.specs.declared.Reply.{Reply}
 

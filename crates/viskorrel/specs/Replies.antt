@@ -10,8 +10,8 @@ use Rattle.interpolation.specs.Operation as interpolation
 use Rattle.operands.specs.Operands.{Workspaces, workspaces}
 use Rattle.surface.specs.Patches.{Patch}
 use Rattle.surface.specs.Patches as patch
-use Rattle.threed_metric.specs.Answers.{Value, number, decided, blob, nothing, Report, answering, refused}
-use Rattle.threed_metric.specs.Operations.{Outcome, outcome}
+use Rattle.outcomes.specs.Answers.{Value, number, decided, blob, nothing, Report, answering, refused}
+use Rattle.outcomes.specs.Operations.{Outcome, outcome}
 use Rattle.viskorrel.specs.declared.Reply.{Reply}
 use Rattle.viskorrel.specs.declared.PairReply.{PairReply}
 

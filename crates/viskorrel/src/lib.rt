@@ -2,19 +2,19 @@
 // Undecided in their contracts is only the payload, sign included, of a NaN in a workspace or in an answered number; output bytes are wholly decided.
 use blob::Sizes;
 use interpolation::Interpolated;
+use outcomes::Answer;
+use outcomes::Decision;
+use outcomes::Written;
 use refusals::Refusal;
 use surface::PatchRange;
-use threed_metric::Answer;
-use threed_metric::Decision;
-use threed_metric::Written;
 ghost use mathlib.Core.Path.{_≡_};
 ghost use mathlib.Core.List.{[]};
 ghost use Rattle.blob.specs.Blob.{sizesOf};
 ghost use Rattle.interpolation.specs.Operation.{reportOf, interpolationOutcome};
 ghost use Rattle.operands.specs.Operands.{workspaces};
 ghost use Rattle.surface.specs.Patches.{patchOf};
-ghost use Rattle.threed_metric.specs.Answers.{answerReport, decisionReport, writtenReport};
-ghost use Rattle.threed_metric.specs.Operations.{distance, maxDistance, within, fullyWithin, intersects, closestPoint, shortestLine, longestLine};
+ghost use Rattle.outcomes.specs.Answers.{answerReport, decisionReport, writtenReport};
+ghost use Rattle.outcomes.specs.Operations.{distance, maxDistance, within, fullyWithin, intersects, closestPoint, shortestLine, longestLine};
 ghost use Rattle.viskorrel.specs.Replies.{replyNothing, replyAnswered, replyRefused, replyOf, returned, returnedOf, interpolationReport, oneSided, pairOf, pairRefused, sizesReply, patchReply};
 
 // What an operation returns: a case, the number and side of a refusal, a number.
@@ -165,7 +165,7 @@ pub extern "C" fn viskorrel_3d_distance(
 ) -> Reply
     ensures { λ r. ⌜ returned r (workspaces (now (floats1 .exit)) (now (table1 .exit)) (now (floats2 .exit)) (now (table2 .exit))) [] ≡ returnedOf (distance (now (a .entry)) (now (b .entry)) (workspaces (now (floats1 .entry)) (now (table1 .entry)) (now (floats2 .entry)) (now (table2 .entry)))) ⌝ }
 {
-    reply_to_answer(threed_metric::st_3d_distance(a, b, floats1, table1, floats2, table2))
+    reply_to_answer(threed_closest::st_3d_distance(a, b, floats1, table1, floats2, table2))
 }
 
 // The greatest distance of a vertex of a from one of b.
@@ -180,7 +180,7 @@ pub extern "C" fn viskorrel_3d_max_distance(
 ) -> Reply
     ensures { λ r. ⌜ returned r (workspaces (now (floats1 .exit)) (now (table1 .exit)) (now (floats2 .exit)) (now (table2 .exit))) [] ≡ returnedOf (maxDistance (now (a .entry)) (now (b .entry)) (workspaces (now (floats1 .entry)) (now (table1 .entry)) (now (floats2 .entry)) (now (table2 .entry)))) ⌝ }
 {
-    reply_to_answer(threed_metric::st_3d_max_distance(a, b, floats1, table1, floats2, table2))
+    reply_to_answer(threed_farthest::st_3d_max_distance(a, b, floats1, table1, floats2, table2))
 }
 
 // Whether a and b are at most d apart.
@@ -196,7 +196,7 @@ pub extern "C" fn viskorrel_3d_dwithin(
 ) -> Reply
     ensures { λ r. ⌜ returned r (workspaces (now (floats1 .exit)) (now (table1 .exit)) (now (floats2 .exit)) (now (table2 .exit))) [] ≡ returnedOf (within (now (a .entry)) (now (b .entry)) d (workspaces (now (floats1 .entry)) (now (table1 .entry)) (now (floats2 .entry)) (now (table2 .entry)))) ⌝ }
 {
-    reply_to_decision(threed_metric::st_3d_dwithin(a, b, d, floats1, table1, floats2, table2))
+    reply_to_decision(threed_closest::st_3d_dwithin(a, b, d, floats1, table1, floats2, table2))
 }
 
 // Whether no vertex of a is farther than d from one of b.
@@ -212,7 +212,15 @@ pub extern "C" fn viskorrel_3d_dfully_within(
 ) -> Reply
     ensures { λ r. ⌜ returned r (workspaces (now (floats1 .exit)) (now (table1 .exit)) (now (floats2 .exit)) (now (table2 .exit))) [] ≡ returnedOf (fullyWithin (now (a .entry)) (now (b .entry)) d (workspaces (now (floats1 .entry)) (now (table1 .entry)) (now (floats2 .entry)) (now (table2 .entry)))) ⌝ }
 {
-    reply_to_decision(threed_metric::st_3d_dfully_within(a, b, d, floats1, table1, floats2, table2))
+    reply_to_decision(threed_farthest::st_3d_dfully_within(
+        a,
+        b,
+        d,
+        floats1,
+        table1,
+        floats2,
+        table2,
+    ))
 }
 
 // Whether the least distance is 0.
@@ -227,7 +235,7 @@ pub extern "C" fn viskorrel_3d_intersects(
 ) -> Reply
     ensures { λ r. ⌜ returned r (workspaces (now (floats1 .exit)) (now (table1 .exit)) (now (floats2 .exit)) (now (table2 .exit))) [] ≡ returnedOf (intersects (now (a .entry)) (now (b .entry)) (workspaces (now (floats1 .entry)) (now (table1 .entry)) (now (floats2 .entry)) (now (table2 .entry)))) ⌝ }
 {
-    reply_to_decision(threed_metric::st_3d_intersects(a, b, floats1, table1, floats2, table2))
+    reply_to_decision(threed_closest::st_3d_intersects(a, b, floats1, table1, floats2, table2))
 }
 
 // The point of a that is closest to b.
@@ -243,7 +251,7 @@ pub extern "C" fn viskorrel_3d_closest_point(
 ) -> Reply
     ensures { λ r. ⌜ returned r (workspaces (now (floats1 .exit)) (now (table1 .exit)) (now (floats2 .exit)) (now (table2 .exit))) (now (output .exit)) ≡ returnedOf (closestPoint (now (a .entry)) (now (b .entry)) (workspaces (now (floats1 .entry)) (now (table1 .entry)) (now (floats2 .entry)) (now (table2 .entry))) (now (output .entry))) ⌝ }
 {
-    reply_to_written(threed_metric::st_3d_closest_point(
+    reply_to_written(threed_closest::st_3d_closest_point(
         a,
         b,
         floats1,
@@ -267,7 +275,7 @@ pub extern "C" fn viskorrel_3d_shortest_line(
 ) -> Reply
     ensures { λ r. ⌜ returned r (workspaces (now (floats1 .exit)) (now (table1 .exit)) (now (floats2 .exit)) (now (table2 .exit))) (now (output .exit)) ≡ returnedOf (shortestLine (now (a .entry)) (now (b .entry)) (workspaces (now (floats1 .entry)) (now (table1 .entry)) (now (floats2 .entry)) (now (table2 .entry))) (now (output .entry))) ⌝ }
 {
-    reply_to_written(threed_metric::st_3d_shortest_line(
+    reply_to_written(threed_closest::st_3d_shortest_line(
         a,
         b,
         floats1,
@@ -291,7 +299,7 @@ pub extern "C" fn viskorrel_3d_longest_line(
 ) -> Reply
     ensures { λ r. ⌜ returned r (workspaces (now (floats1 .exit)) (now (table1 .exit)) (now (floats2 .exit)) (now (table2 .exit))) (now (output .exit)) ≡ returnedOf (longestLine (now (a .entry)) (now (b .entry)) (workspaces (now (floats1 .entry)) (now (table1 .entry)) (now (floats2 .entry)) (now (table2 .entry))) (now (output .entry))) ⌝ }
 {
-    reply_to_written(threed_metric::st_3d_longest_line(
+    reply_to_written(threed_farthest::st_3d_longest_line(
         a,
         b,
         floats1,

@@ -1,5 +1,5 @@
 -- `viskorrel::reply_to_answer` meets its contract. Assumes nothing.
-use Rattle.threed_metric.specs.Answers.{answerReport}
+use Rattle.outcomes.specs.Answers.{answerReport}
 use Rattle.viskorrel.specs.Replies.{replyOf, replyOfValue}
 use borrow.Author.Needs.{needs}
 use Rattle.viskorrel.proofs.reply_to_answer.Statement.{statement}

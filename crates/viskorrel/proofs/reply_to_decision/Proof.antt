@@ -1,6 +1,6 @@
 -- `viskorrel::reply_to_decision` meets its contract. Assumes nothing.
 use lib.Ieee.{ofBits}
-use Rattle.threed_metric.specs.Answers.{decisionReport}
+use Rattle.outcomes.specs.Answers.{decisionReport}
 use Rattle.viskorrel.specs.Replies.{replyOf, replyOfValue}
 use borrow.Author.Needs.{needs}
 use Rattle.viskorrel.proofs.reply_to_decision.Statement.{statement}

@@ -1,6 +1,6 @@
 -- `viskorrel::reply_to_written` meets its contract. Assumes nothing.
 use lib.Ieee.{ofBits}
-use Rattle.threed_metric.specs.Answers.{writtenReport}
+use Rattle.outcomes.specs.Answers.{writtenReport}
 use Rattle.viskorrel.specs.Replies.{replyOf, replyOfValue}
 use borrow.Author.Needs.{needs}
 use Rattle.viskorrel.proofs.reply_to_written.Statement.{statement}

@@ -1,0 +1,82 @@
+-- What a sweep is handed of both workspaces is the part that was written, and its vertices and items are those of the blobs. Assumes nothing.
+use mathlib.Core.Path.{_≡_, ap}
+use mathlib.Core.List.{List, [], append-nil}
+use Prim.Native.Nat.{ℕ, _*_, _≤_}
+use native.Mathlib.Omega.{arith}
+use lib.ListN.{length, take, drop, length-append, length-take}
+use lib.Seq.{take-append-seam}
+use lib.Ieee.{Float}
+use Rattle.coords.specs.Walk.{Coordinate}
+use Rattle.coords.specs.Parts.{Run, coordinateCount, verticesOf}
+use Rattle.workspace.specs.Workspace.{floatsPerCoordinate, numbersPerRun, floatsNeeded, numbersNeeded, floatsOf, tableOf, floatsWith, tableWith}
+use Rattle.workspace.proofs.Contents.{length-floats, length-table}
+use Rattle.parts.specs.Stored.{storedRuns, Laid}
+use Rattle.parts.proofs.Filled.{laid-written, stored-written, vertices-written}
+use Rattle.items.specs.Items.{itemsOf}
+use Rattle.blob.specs.Blob.{runsOfBlob}
+use Rattle.operands.specs.Operands.{Workspaces, workspaces, filled}
+use Rattle.operands.specs.Inner.{operandsOf, Ready}
+use Rattle.operands.specs.declared.Operands.{Operands}
+use Rattle.outcomes.specs.Operations.{vertexPoints, itemsOfBlob}
+
+-- a part of a list, by its length
+pub taken : {A : Type 0} (n : ℕ) (l : List A) → n ≤ length l → n ≡ length (take n l)
+taken n l h = simp length-take (omega arith)
+
+-- ---- one side
+
+module _ (rs : List (Run Coordinate)) (floats : List Float) (table : List ℕ) where
+  first-floats : take (floatsNeeded rs) (floatsWith rs floats) ≡ floatsOf rs
+  unfolding floatsWith
+  first-floats = rw (← length-floats rs) (take-append-seam (floatsOf rs) (drop (length (floatsOf rs)) floats))
+
+  first-numbers : take (numbersNeeded rs) (tableWith rs table) ≡ tableOf rs
+  unfolding tableWith
+  first-numbers = rw (← length-table rs) (take-append-seam (tableOf rs) (drop (length (tableOf rs)) table))
+
+  enough-floats : floatsNeeded rs ≤ length (floatsWith rs floats)
+  unfolding floatsWith
+  enough-floats = simp length-append (omega (arith, length-floats rs))
+
+  enough-numbers : numbersNeeded rs ≤ length (tableWith rs table)
+  unfolding tableWith
+  enough-numbers = simp length-append (omega (arith, length-table rs))
+
+-- of the workspace of s, which holds so many coordinates and runs, the first floats and numbers
+pub record Handed (s : List ℕ) (coords runs : ℕ) (floats : List Float) (table : List ℕ) : Type 0 where
+  pub for-floats : floatsPerCoordinate * coords ≤ length floats
+  pub for-numbers : numbersPerRun * runs ≤ length table
+  pub laid : Laid (take (numbersPerRun * runs) table) (take (floatsPerCoordinate * coords) floats)
+  pub vertices : verticesOf (storedRuns (take (numbersPerRun * runs) table) (take (floatsPerCoordinate * coords) floats)) ≡ vertexPoints s
+  pub items : itemsOf (storedRuns (take (numbersPerRun * runs) table) (take (floatsPerCoordinate * coords) floats)) ≡ itemsOfBlob s
+
+handed : (s : List ℕ) (floats : List Float) (table : List ℕ) → Handed s (coordinateCount (runsOfBlob s)) (length (runsOfBlob s)) (floatsWith (runsOfBlob s) floats) (tableWith (runsOfBlob s) table)
+handed s floats table =
+    let rs = runsOfBlob s in
+    let f = first-floats rs floats table in
+    let n = first-numbers rs floats table in
+    record {
+      for-floats = enough-floats rs floats table;
+      for-numbers = enough-numbers rs floats table;
+      laid = rw (f, n, ← append-nil (floatsOf rs)) (laid-written rs []);
+      vertices = rw (f, n, ← append-nil (floatsOf rs)) (vertices-written rs []);
+      items = rw (f, n, ← append-nil (floatsOf rs)) (ap itemsOf (stored-written rs []));
+    }
+
+-- ---- both sides, once they are filled
+
+module _ (a b : List ℕ) (o : Operands) (f g : List Float) (t u : List ℕ) (own : o ≡ operandsOf a b) (ready : Ready a b (length f) (length t) (length g) (length u)) where
+  pub needed-first : (floatsPerCoordinate * o .first .coords ≤ length f) × (numbersPerRun * o .first .runs ≤ length t)
+  needed-first = rw own (ready .first .for-floats, ready .first .for-numbers)
+
+  pub needed-second : (floatsPerCoordinate * o .second .coords ≤ length g) × (numbersPerRun * o .second .runs ≤ length u)
+  needed-second = rw own (ready .second .for-floats, ready .second .for-numbers)
+
+  module _ (f′ g′ : List Float) (t′ u′ : List ℕ) (full : workspaces f′ t′ g′ u′ ≡ filled a b (workspaces f t g u)) where
+    pub handed-first : Handed a (o .first .coords) (o .first .runs) f′ t′
+    unfolding filled
+    handed-first = rw (own, ap (λ (w : Workspaces). w .floats1) full, ap (λ (w : Workspaces). w .table1) full) (handed a f t)
+
+    pub handed-second : Handed b (o .second .coords) (o .second .runs) g′ u′
+    unfolding filled
+    handed-second = rw (own, ap (λ (w : Workspaces). w .floats2) full, ap (λ (w : Workspaces). w .table2) full) (handed b g u)

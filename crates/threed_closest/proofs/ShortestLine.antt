@@ -1,0 +1,33 @@
+-- The third property of the shortest line (mission, third property), for every call whose blobs hold point runs only. Assumes nothing.
+use mathlib.Core.Path.{_≡_, sym, subst}
+use mathlib.Core.List.{List}
+use mathlib.Core.Option.{none, some}
+use Prim.Native.Nat.{ℕ, _<_}
+use lib.ListN.{getD}
+use Rattle.refusals.specs.Checks.{firstOf}
+use Rattle.parts.specs.Points.{pointOf}
+use Rattle.extremes.specs.Extreme.{measured, distanceOf, atLeast, Holds}
+use Rattle.blob.specs.Blob.{runsOfBlob}
+use Rattle.closest.proofs.PointsOnly.{shortest-line-of-runs}
+use Rattle.operands.specs.Operands.{Workspaces, filled}
+use Rattle.outcomes.specs.Operations.{Outcome, verticesOfBlob, closestPair, lineChecks, shortestLine}
+use Rattle.outcomes.specs.ThirdProperty.{PointRunsOnly, ShortestOfPoints}
+use Rattle.outcomes.proofs.FirstExtremeLine.{point-binary64, accepted-line}
+use Rattle.threed_closest.proofs.PointRuns.{point-runs}
+
+-- the closest pair of two blobs that hold point runs only
+closest-holds : (a b : List ℕ) → PointRunsOnly a → PointRunsOnly b → Holds (distanceOf pointOf) atLeast (verticesOfBlob a) (verticesOfBlob b) (closestPair a b ≡ none) (λ p. closestPair a b ≡ some (measured pointOf p))
+unfolding closestPair
+closest-holds a b p q = shortest-line-of-runs pointOf point-binary64 (runsOfBlob a) (runsOfBlob b) (point-runs a p) (point-runs b q)
+
+module _ (a b : List ℕ) (w : Workspaces) (output : List ℕ) (bytes1 : (i : ℕ) → getD a i 0 < 256) (bytes2 : (i : ℕ) → getD b i 0 < 256) where
+  pub shortest-of-points : ShortestOfPoints a b w output (shortestLine a b w output .report) (shortestLine a b w output .output)
+  unfolding shortestLine
+  shortest-of-points =
+      record {
+        accepted = λ first p q. accepted-line a b bytes1 bytes2 (closestPair a b) (closest-holds a b p q) output (firstOf (lineChecks a b w output)) (filled a b w) w first;
+      }
+
+  -- the same of an outcome that was shown to be the operation's
+  pub shortest-of-outcome : (o : Outcome) → o ≡ shortestLine a b w output → ShortestOfPoints a b w output (o .report) (o .output)
+  shortest-of-outcome o e = subst (λ (o : Outcome). ShortestOfPoints a b w output (o .report) (o .output)) (sym e) shortest-of-points

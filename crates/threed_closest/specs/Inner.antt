@@ -1,0 +1,12 @@
+-- The closest pair, with both blobs read into lent memory: for inner contracts only. Definitions only.
+use Prim.Native.Nat.{ℕ}
+use mathlib.Core.List.{List}
+use Rattle.operands.specs.Operands.{Workspaces}
+use Rattle.closest.specs.Closest.{answerOf}
+use Rattle.closest.specs.declared.ClosestPair.{ClosestPair}
+use Rattle.outcomes.specs.Operations.{closestPair}
+use Rattle.outcomes.specs.Inner.{PairRead}
+
+-- the closest pair of points, segments and triangles
+abbrev pub ClosestRead : List ℕ → List ℕ → Workspaces → Workspaces → ClosestPair → Type 0
+ClosestRead a b w w′ r = PairRead (answerOf (closestPair a b)) a b w w′ r

@@ -1,0 +1,238 @@
+// 3D measures by the closest pair of points, segments and triangles of two blobs: document 01's distance, within, intersects, closest point and shortest line, for every input.
+// Undecided in its contracts is only the payload, sign included, of a NaN in a workspace or in an answered number; output bytes are wholly decided.
+use closest::ClosestPair;
+use operands::Checked;
+use operands::Operands;
+use outcomes::Answer;
+use outcomes::Decision;
+use outcomes::Written;
+use refusals::Refusal;
+use workspace::FLOATS_PER_COORDINATE;
+use workspace::NUMBERS_PER_RUN;
+ghost use mathlib.Core.Path.{_≡_};
+ghost use mathlib.Core.List.{[]};
+ghost use lib.ListN.{length};
+ghost use Rattle.operands.specs.Operands.{workspaces};
+ghost use Rattle.operands.specs.Inner.{operandsOf, Ready};
+ghost use Rattle.outcomes.specs.Answers.{answerReport, decisionReport, writtenReport};
+ghost use Rattle.outcomes.specs.Operations.{outcome, distance, within, intersects, closestPoint, shortestLine};
+ghost use Rattle.outcomes.specs.ThirdProperty.{ShortestOfPoints};
+ghost use Rattle.threed_closest.specs.Inner.{ClosestRead};
+
+// The bytes of a point.
+const POINT_BYTES: usize = 37;
+
+// The bytes of a line.
+const LINE_BYTES: usize = 65;
+
+// The closest pair of the items of two accepted blobs, once they are read into lent memory.
+fn closest_pair(
+    a: &[u8],
+    b: &[u8],
+    o: Operands,
+    floats1: &mut [f64],
+    table1: &mut [u32],
+    floats2: &mut [f64],
+    table2: &mut [u32],
+    stop_at_zero: bool,
+) -> ClosestPair
+    requires { ⌜ o ≡ operandsOf (now a) (now b) ⌝ }
+    requires { ⌜ Ready (now a) (now b) (length (now floats1)) (length (now table1)) (length (now floats2)) (length (now table2)) ⌝ }
+    ensures { λ r. ⌜ ClosestRead (now (a .entry)) (now (b .entry)) (workspaces (now (floats1 .entry)) (now (table1 .entry)) (now (floats2 .entry)) (now (table2 .entry))) (workspaces (now (floats1 .exit)) (now (table1 .exit)) (now (floats2 .exit)) (now (table2 .exit))) r ⌝ }
+{
+    let first = o.first;
+    let second = o.second;
+    let ordinates1 = FLOATS_PER_COORDINATE * first.coords;
+    let ordinates2 = FLOATS_PER_COORDINATE * second.coords;
+    let entries1 = NUMBERS_PER_RUN * first.runs;
+    let entries2 = NUMBERS_PER_RUN * second.runs;
+    operands::fill(a, b, o, floats1, table1, floats2, table2);
+    closest::closest(
+        &floats1[..ordinates1],
+        &table1[..entries1],
+        &floats2[..ordinates2],
+        &table2[..entries2],
+        stop_at_zero,
+    )
+}
+
+// The least distance of an item of side 1 from one of side 2.
+pub fn st_3d_distance(
+    a: &[u8],
+    b: &[u8],
+    floats1: &mut [f64],
+    table1: &mut [u32],
+    floats2: &mut [f64],
+    table2: &mut [u32],
+) -> Answer
+    ensures { λ r. ⌜ outcome (answerReport r) (workspaces (now (floats1 .exit)) (now (table1 .exit)) (now (floats2 .exit)) (now (table2 .exit))) [] ≡ distance (now (a .entry)) (now (b .entry)) (workspaces (now (floats1 .entry)) (now (table1 .entry)) (now (floats2 .entry)) (now (table2 .entry))) ⌝ }
+{
+    match operands::check(
+        a,
+        b,
+        floats1.len(),
+        table1.len(),
+        floats2.len(),
+        table2.len(),
+    ) {
+        Checked::Refused(refusal) => Answer::Refused(refusal),
+        Checked::Accepted(o) => match closest_pair(
+            a,
+            b,
+            o,
+            floats1,
+            table1,
+            floats2,
+            table2,
+            false,
+        ) {
+            ClosestPair::Nothing => Answer::Nothing,
+            ClosestPair::Found(w) => Answer::Measured(w.d),
+        },
+    }
+}
+
+// Whether the distance is at most d.
+pub fn st_3d_dwithin(
+    a: &[u8],
+    b: &[u8],
+    d: f64,
+    floats1: &mut [f64],
+    table1: &mut [u32],
+    floats2: &mut [f64],
+    table2: &mut [u32],
+) -> Decision
+    ensures { λ r. ⌜ outcome (decisionReport r) (workspaces (now (floats1 .exit)) (now (table1 .exit)) (now (floats2 .exit)) (now (table2 .exit))) [] ≡ within (now (a .entry)) (now (b .entry)) d (workspaces (now (floats1 .entry)) (now (table1 .entry)) (now (floats2 .entry)) (now (table2 .entry))) ⌝ }
+{
+    if d < 0.0 {
+        return Decision::Refused(Refusal { number: 1, side: 0 });
+    }
+    match st_3d_distance(a, b, floats1, table1, floats2, table2) {
+        Answer::Refused(refusal) => Decision::Refused(refusal),
+        Answer::Nothing => Decision::No,
+        Answer::Measured(least) => if least <= d {
+            Decision::Yes
+        } else {
+            Decision::No
+        },
+    }
+}
+
+// Whether the distance is 0.
+pub fn st_3d_intersects(
+    a: &[u8],
+    b: &[u8],
+    floats1: &mut [f64],
+    table1: &mut [u32],
+    floats2: &mut [f64],
+    table2: &mut [u32],
+) -> Decision
+    ensures { λ r. ⌜ outcome (decisionReport r) (workspaces (now (floats1 .exit)) (now (table1 .exit)) (now (floats2 .exit)) (now (table2 .exit))) [] ≡ intersects (now (a .entry)) (now (b .entry)) (workspaces (now (floats1 .entry)) (now (table1 .entry)) (now (floats2 .entry)) (now (table2 .entry))) ⌝ }
+{
+    match operands::check(
+        a,
+        b,
+        floats1.len(),
+        table1.len(),
+        floats2.len(),
+        table2.len(),
+    ) {
+        Checked::Refused(refusal) => Decision::Refused(refusal),
+        Checked::Accepted(o) => match closest_pair(
+            a,
+            b,
+            o,
+            floats1,
+            table1,
+            floats2,
+            table2,
+            true,
+        ) {
+            ClosestPair::Nothing => Decision::No,
+            ClosestPair::Found(w) => if w.d == 0.0 {
+                Decision::Yes
+            } else {
+                Decision::No
+            },
+        },
+    }
+}
+
+// Side 1's point of the closest pair.
+pub fn st_3d_closest_point(
+    a: &[u8],
+    b: &[u8],
+    floats1: &mut [f64],
+    table1: &mut [u32],
+    floats2: &mut [f64],
+    table2: &mut [u32],
+    output: &mut [u8],
+) -> Written
+    ensures { λ r. ⌜ outcome (writtenReport r) (workspaces (now (floats1 .exit)) (now (table1 .exit)) (now (floats2 .exit)) (now (table2 .exit))) (now (output .exit)) ≡ closestPoint (now (a .entry)) (now (b .entry)) (workspaces (now (floats1 .entry)) (now (table1 .entry)) (now (floats2 .entry)) (now (table2 .entry))) (now (output .entry)) ⌝ }
+{
+    match operands::check(
+        a,
+        b,
+        floats1.len(),
+        table1.len(),
+        floats2.len(),
+        table2.len(),
+    ) {
+        Checked::Refused(refusal) => Written::Refused(refusal),
+        Checked::Accepted(o) => {
+            if output.len() < POINT_BYTES {
+                return Written::Refused(Refusal {
+                    number: 16,
+                    side: 0,
+                });
+            }
+            match closest_pair(a, b, o, floats1, table1, floats2, table2, false) {
+                ClosestPair::Nothing => Written::Nothing,
+                ClosestPair::Found(w) => {
+                    gpb::write_point(output, o.srid, w.ax, w.ay, w.az);
+                    Written::Blob
+                }
+            }
+        }
+    }
+}
+
+// The line between the closest pair, from side 1's point to side 2's.
+pub fn st_3d_shortest_line(
+    a: &[u8],
+    b: &[u8],
+    floats1: &mut [f64],
+    table1: &mut [u32],
+    floats2: &mut [f64],
+    table2: &mut [u32],
+    output: &mut [u8],
+) -> Written
+    ensures whole_outcome { λ r. ⌜ outcome (writtenReport r) (workspaces (now (floats1 .exit)) (now (table1 .exit)) (now (floats2 .exit)) (now (table2 .exit))) (now (output .exit)) ≡ shortestLine (now (a .entry)) (now (b .entry)) (workspaces (now (floats1 .entry)) (now (table1 .entry)) (now (floats2 .entry)) (now (table2 .entry))) (now (output .entry)) ⌝ }
+    ensures shortest_of_points { λ r. ⌜ ShortestOfPoints (now (a .entry)) (now (b .entry)) (workspaces (now (floats1 .entry)) (now (table1 .entry)) (now (floats2 .entry)) (now (table2 .entry))) (now (output .entry)) (writtenReport r) (now (output .exit)) ⌝ }
+{
+    match operands::check(
+        a,
+        b,
+        floats1.len(),
+        table1.len(),
+        floats2.len(),
+        table2.len(),
+    ) {
+        Checked::Refused(refusal) => Written::Refused(refusal),
+        Checked::Accepted(o) => {
+            if output.len() < LINE_BYTES {
+                return Written::Refused(Refusal {
+                    number: 16,
+                    side: 0,
+                });
+            }
+            match closest_pair(a, b, o, floats1, table1, floats2, table2, false) {
+                ClosestPair::Nothing => Written::Nothing,
+                ClosestPair::Found(w) => {
+                    gpb::write_line(output, o.srid, w.ax, w.ay, w.az, w.bx, w.by, w.bz);
+                    Written::Blob
+                }
+            }
+        }
+    }
+}
