@@ -27,7 +27,8 @@ use Rattle.items.specs.declared.Class.{Class}
 use Rattle.items.specs.declared.Class.the-variants.{Points, Segments, Triangles}
 use Rattle.listing.specs.Rows.{floatsPerBox, boxFloats}
 use Rattle.listing.proofs.Rows.{sets-before, box-put, box-kept}
-use Rattle.closest.specs.Closest.{noCloser, withEach}
+use Rattle.items.specs.Closest.{withEach}
+use Rattle.extremes.specs.ClosestSweep.{noCloser}
 use Rattle.closest.specs.Cover.{coverOfItems}
 use Rattle.closest.specs.Spans.{itemsPast, itemTotal, Reaches, Spanned}
 use Rattle.closest.specs.Blocks.{numbersPerCursor, cursorNumbers, cursorAt, Blocks, Describes, Plans, planWith}

@@ -23,7 +23,8 @@ use Rattle.extremes.specs.Sweeps.{skipping, oneMinusSlack}
 use Rattle.extremes.proofs.Lists.{Each}
 use Rattle.extremes.proofs.BoxOfAll.{Axis, EndsFit, Fitting, axis-x, axis-y, axis-z}
 use Rattle.items.specs.Items.{Item, boxOfItem}
-use Rattle.closest.specs.Closest.{noCloser, withEach}
+use Rattle.items.specs.Closest.{withEach}
+use Rattle.extremes.specs.ClosestSweep.{noCloser}
 use Rattle.closest.specs.Cover.{CoversOn, Covers, lowerOf, upperOf, coverOf, emptyCover, coverItem, coverOfItems}
 
 slack-fits : T (fits binary64 oneMinusSlack)

@@ -13,7 +13,8 @@ use Rattle.extremes.proofs.Taking.{unbeaten-row}
 use Rattle.items.specs.Items.{Item, boxOfItem}
 use Rattle.items.specs.Candidates.{candidatesOf}
 use Rattle.items.proofs.NotBelowZero.{Distant, candidates-not-below}
-use Rattle.closest.specs.Closest.{noCloser, withItem, withEach, sweepOf}
+use Rattle.items.specs.Closest.{withItem, withEach, sweepOf}
+use Rattle.extremes.specs.ClosestSweep.{noCloser}
 use Rattle.closest.specs.Inner.{atZero}
 
 module _ {S X : Type 0} (skip : S → X → Bool) (step : S → X → S) where

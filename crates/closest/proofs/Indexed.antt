@@ -13,7 +13,7 @@ use Rattle.items.specs.declared.Class.{Class}
 use Rattle.listing.specs.declared.Listing.{Listing}
 use Rattle.listing.specs.Rows.{floatsPerBox, numbersPerPlace}
 use Rattle.listing.specs.Listing.{mostListed, Lists}
-use Rattle.closest.specs.Closest.{sweepOf, closestWithin, closestOf}
+use Rattle.items.specs.Closest.{sweepOf, closestWithin, closestOf}
 use Rattle.closest.specs.Blocks.{Describes, Plans}
 use Rattle.closest.specs.Indexed.{Indexed}
 use Rattle.closest.specs.declared.Part.{Part}

@@ -22,7 +22,7 @@ use Rattle.items.proofs.NotBelowZero.{Distant, candidates-not-below}
 use Rattle.items.proofs.Repeats.{settled-stays, measured-first, measured-second, second-turn, first-distant}
 use Rattle.listing.specs.Rows.{numbersPerPlace, placeAt}
 use Rattle.listing.specs.Listing.{listedItem}
-use Rattle.closest.specs.Closest.{withItem}
+use Rattle.items.specs.Closest.{withItem}
 use Rattle.closest.specs.Inner.{atZero}
 use Rattle.closest.specs.Known.{Known, MeasuredBefore, Follows}
 

@@ -9,7 +9,8 @@ use Rattle.primitives.specs.declared.Aabb.{Aabb}
 use Rattle.extremes.specs.Sweeps.{skipping, shorter, taking}
 use Rattle.items.specs.Items.{Item, point, segment, triangle, uniteItem, boxOfItems}
 use Rattle.items.specs.Candidates.{candidatesOf}
-use Rattle.closest.specs.Closest.{noCloser, withItem, withEach, sweepOf, closestWithin, closestOf}
+use Rattle.items.specs.Closest.{withItem, withEach, sweepOf, closestWithin, closestOf}
+use Rattle.extremes.specs.ClosestSweep.{noCloser}
 
 -- there is something
 data There {X : Type 0} : Option X → Type 0 where

@@ -17,7 +17,8 @@ use Rattle.parts.proofs.Turns.{runs-next, runs-none, count-next}
 use Rattle.primitives.specs.Boxes.{unionOf}
 use Rattle.items.specs.Items.{Item, point, pointsOf, itemsOfKind, itemsOf, boxOfItem, uniteItem, boxOfItems}
 use Rattle.extremes.specs.Sweeps.{skipping}
-use Rattle.closest.specs.Closest.{noCloser, withEach, sweepOf, closestWithin, closestOf}
+use Rattle.items.specs.Closest.{withEach, sweepOf, closestWithin, closestOf}
+use Rattle.extremes.specs.ClosestSweep.{noCloser}
 use Rattle.closest.specs.Spans.{isOnePoint}
 
 both : (a b : Bool) → (a && b) ≡ true → (a ≡ true) × (b ≡ true)

@@ -18,7 +18,8 @@ use Rattle.coords.proofs.Parts.{vertices-map}
 use Rattle.items.specs.Items.{Item, point, itemsOf, boxOfItem, PointRuns, uniteItem, boxOfItems}
 use Rattle.items.proofs.PointRuns.{items-of-points, point-runs-mapped}
 use Rattle.items.specs.Candidates.{candidatesOf}
-use Rattle.closest.specs.Closest.{noCloser, withItem, withEach, sweepOf, closestWithin, closestOf}
+use Rattle.items.specs.Closest.{withItem, withEach, sweepOf, closestWithin, closestOf}
+use Rattle.extremes.specs.ClosestSweep.{noCloser}
 
 box-is : (p : Point) → boxOfItem (point p) ≡ boxOfPoint p
 unfolding boxOfItem

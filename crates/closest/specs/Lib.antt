@@ -1,4 +1,3 @@
-pub mod Closest
 pub mod Inner
 pub mod Spans
 pub mod Cover

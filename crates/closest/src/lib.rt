@@ -1,5 +1,6 @@
 // The closest sweep: the items of A in order, each with the items of B in order.
-use items::Best;
+use extremes::Best;
+use extremes::ExtremePair;
 use items::Class;
 use items::Shape;
 use primitives::Aabb;
@@ -17,22 +18,19 @@ ghost use Rattle.workspace.specs.Workspace.{floatsPerCoordinate};
 ghost use Rattle.parts.specs.Stored.{pointAt, pointsFrom, storedRuns, runCount, Laid};
 ghost use Rattle.items.specs.Items.{point, itemsOf, boxOfItem};
 ghost use Rattle.items.specs.Repeats.{AllSettled, firstBefore, firstAfter};
-ghost use Rattle.items.specs.Inner.{itemOf, itemsBy, classItems, bestOf, Sound, Keeps};
+ghost use Rattle.items.specs.Inner.{itemOf, itemsBy, classItems};
+ghost use Rattle.extremes.specs.InnerBest.{bestOf, Sound, Keeps};
 ghost use Rattle.listing.specs.Rows.{floatsPerBox, numbersPerPlace, placeAt};
 ghost use Rattle.listing.specs.Listing.{RoomAt, listedItem, listedFrom};
-ghost use Rattle.closest.specs.Closest.{noCloser, withItem, withEach, sweepOf, closestOf, answerOf};
+ghost use Rattle.items.specs.Closest.{withItem, withEach, sweepOf, closestOf};
+ghost use Rattle.extremes.specs.Found.{answerOf};
+ghost use Rattle.extremes.specs.ClosestSweep.{noCloser};
 ghost use Rattle.closest.specs.Inner.{atZero};
 ghost use Rattle.closest.specs.Spans.{isOnePoint, itemsIn, itemsPast, RoomPast, itemTotal, Spanned};
 ghost use Rattle.closest.specs.Cover.{lowerOf, upperOf, coverOf, emptyCover};
 ghost use Rattle.closest.specs.Blocks.{numbersPerCursor, cursorNumbers, cursorAt, Blocks, Cut, Describes, Plans, Uncut, planWith, numbersPerPart, partAt, planAt};
 ghost use Rattle.closest.specs.Indexed.{HasEntries, Indexed};
 ghost use Rattle.closest.specs.Known.{Known, MeasuredBefore, Follows};
-
-// The closest pair of points, if both sides have an item.
-pub enum ClosestPair {
-    Nothing,
-    Found(Witness),
-}
 
 // Where items of a class start: those of run r and on, whose points start at place at, but for the first j.
 pub struct Cursor {
@@ -878,7 +876,7 @@ fn sweep_many(
         triangles.size,
     ];
     sweep(
-        items::none_yet(),
+        extremes::none_yet(),
         stop,
         floats1,
         table1,
@@ -905,11 +903,11 @@ fn from_all(stop: bool, floats1: &[f64], table1: &[u32], floats2: &[f64], table2
     let listed = list.count;
     let all = list.all;
     if listed == 0 {
-        return items::none_yet();
+        return extremes::none_yet();
     }
     if listed <= listing::LISTED {
         return sweep(
-            items::none_yet(),
+            extremes::none_yet(),
             stop,
             floats1,
             table1,
@@ -1005,7 +1003,7 @@ fn from_one_point(stop: bool, floats1: &[f64], floats2: &[f64], table2: &[u32]) 
     requires { ⌜ Laid (now table2) (now floats2) ⌝ }
     ensures { λ r. ⌜ Keeps r (withEach (point (pointAt (now (floats1 .entry)) 0)) none (itemsOf (storedRuns (now (table2 .entry)) (now (floats2 .entry))))) ⌝ }
 {
-    let first = items::none_yet();
+    let first = extremes::none_yet();
     let a = items::item_at(Class::Points, floats1, 0, 1, 0);
     if is_one_point(table2) {
         let b = items::item_at(Class::Points, floats2, 0, 1, 0);
@@ -1017,17 +1015,6 @@ fn from_one_point(stop: bool, floats1: &[f64], floats2: &[f64], table2: &[u32]) 
     with_class(segments, stop, a, a_box, Class::Triangles, floats2, table2)
 }
 
-// The best as an answer.
-fn answered(last: Best) -> ClosestPair
-    ensures { λ r. ⌜ r ≡ answerOf (bestOf last) ⌝ }
-{
-    let w = last.witness;
-    if w.d < 0.0 {
-        return ClosestPair::Nothing;
-    }
-    ClosestPair::Found(w)
-}
-
 // The closest pair of points of two workspaces' items. Stopping at 0 changes no answer.
 pub fn closest(
     floats1: &[f64],
@@ -1035,13 +1022,13 @@ pub fn closest(
     floats2: &[f64],
     table2: &[u32],
     stop_at_zero: bool,
-) -> ClosestPair
+) -> ExtremePair
     requires { ⌜ Laid (now table1) (now floats1) ⌝ }
     requires { ⌜ Laid (now table2) (now floats2) ⌝ }
     ensures { λ r. ⌜ r ≡ answerOf (closestOf (itemsOf (storedRuns (now (table1 .entry)) (now (floats1 .entry)))) (itemsOf (storedRuns (now (table2 .entry)) (now (floats2 .entry))))) ⌝ }
 {
     if is_one_point(table1) {
-        return answered(from_one_point(stop_at_zero, floats1, floats2, table2));
+        return extremes::answered(from_one_point(stop_at_zero, floats1, floats2, table2));
     }
-    answered(from_all(stop_at_zero, floats1, table1, floats2, table2))
+    extremes::answered(from_all(stop_at_zero, floats1, table1, floats2, table2))
 }

@@ -8,6 +8,7 @@ pub mod FirstExtreme
 pub mod BoxOfAll
 pub mod BoxSkips
 pub mod Taking
+pub mod BestSoFar
 pub mod Repeats
 pub mod ClosestPoints
 pub mod PointsOnly

@@ -1,1 +1,47 @@
-// Pairs of vertices and the first extreme pair: definitions in specs/, laws in proofs/.
+// The best pair so far and what a sweep found. All pairs, the first extreme pair and the sweeps that skip are definitions (specs/) with their laws (proofs/).
+use primitives::Witness;
+ghost use mathlib.Core.Path.{_≡_};
+ghost use mathlib.Core.Option.{none};
+ghost use Rattle.extremes.specs.Found.{answerOf};
+ghost use Rattle.extremes.specs.InnerBest.{bestOf, Keeps};
+
+// The extreme pair that a sweep found, if there is a pair.
+pub enum ExtremePair {
+    Nothing,
+    Found(Witness),
+}
+
+// The best witness so far and the sum of squares that its distance is the root of. While there is none, the distance is below 0 and the sum NaN.
+pub struct Best {
+    pub sum: f64,
+    pub witness: Witness,
+}
+
+// No witness yet.
+pub fn none_yet() -> Best
+    ensures { λ r. ⌜ Keeps r none ⌝ }
+{
+    Best {
+        sum: 0.0 / 0.0,
+        witness: Witness {
+            d: -1.0,
+            ax: 0.0,
+            ay: 0.0,
+            az: 0.0,
+            bx: 0.0,
+            by: 0.0,
+            bz: 0.0,
+        },
+    }
+}
+
+// What a sweep found that ended with that best.
+pub fn answered(last: Best) -> ExtremePair
+    ensures { λ r. ⌜ r ≡ answerOf (bestOf last) ⌝ }
+{
+    let w = last.witness;
+    if w.d < 0.0 {
+        return ExtremePair::Nothing;
+    }
+    ExtremePair::Found(w)
+}

@@ -8,7 +8,7 @@ use Rattle.primitives.specs.declared.Witness.{Witness}
 use Rattle.primitives.specs.declared.Aabb.{Aabb}
 use Rattle.extremes.specs.Sweeps.{skipping}
 use Rattle.farthest.specs.declared.Best.{Best}
-use Rattle.farthest.specs.Farthest.{farthestFrom}
+use Rattle.extremes.specs.Farthest.{farthestFrom}
 use Rattle.farthest.specs.Inner.{pairOf, Keeps, boxWith, swept}
 
 pub from-append : (l m : List Point) (best : Option Witness) (p : Point) → farthestFrom (l ++ m) best p ≡ farthestFrom m (farthestFrom l best p) p

@@ -8,7 +8,7 @@ use Rattle.extremes.proofs.Lists.{Each}
 use Rattle.extremes.proofs.Senses.{longest}
 use Rattle.extremes.proofs.FirstExtreme.{best-holds}
 use Rattle.extremes.proofs.BoxOfAll.{IsBinary64}
-use Rattle.farthest.specs.Farthest.{farthestOf}
+use Rattle.extremes.specs.Farthest.{farthestOf}
 use Rattle.farthest.proofs.Unskipped.{farthest-unskipped, farthest-unskipped-of}
 
 -- of lists of points of binary64

@@ -12,7 +12,7 @@ use Rattle.primitives.specs.declared.Aabb.{Aabb}
 use Rattle.primitives.specs.Witnesses.{betweenOf}
 use Rattle.primitives.specs.Boxes.{addPoint}
 use Rattle.extremes.specs.Sweeps.{skipping, taking, longer}
-use Rattle.farthest.specs.Farthest.{farthestFrom}
+use Rattle.extremes.specs.Farthest.{farthestFrom}
 use Rattle.farthest.specs.Inner.{boxWith, swept}
 
 module _ (floats : List Float) (at n : ℕ) where

@@ -12,7 +12,7 @@ use Rattle.extremes.proofs.Distances.{distance-fits}
 use Rattle.extremes.proofs.Skipping.{skipping-agree}
 use Rattle.extremes.proofs.Taking.{Made, nothing, found, made-fits, row-made, taking-again, row-again}
 use Rattle.extremes.proofs.Repeats.{Repeats, fold-repeats, skipping-repeats, box-repeats}
-use Rattle.farthest.specs.Farthest.{noFarther, farthestFrom, farthestWithin, farthestOf}
+use Rattle.extremes.specs.Farthest.{noFarther, farthestFrom, farthestWithin, farthestOf}
 
 -- a vertex of side 2 again, with the same vertex of side 1
 pub right-again : (a : Point) (best : Option Witness) (b : Point) → taking longer (taking longer best (betweenOf a b)) (betweenOf a b) ≡ taking longer best (betweenOf a b)

@@ -19,7 +19,7 @@ use Rattle.extremes.proofs.FirstExtreme.{bestOf, best-mapped}
 use Rattle.extremes.proofs.BoxOfAll.{IsBinary64, Inside, box-exists, box-fitting, box-holds}
 use Rattle.extremes.proofs.BoxSkips.{box-no-farther}
 use Rattle.extremes.proofs.Taking.{Made, nothing, found, row-made, unbeaten-row}
-use Rattle.farthest.specs.Farthest.{noFarther, farthestFrom, farthestWithin, farthestOf}
+use Rattle.extremes.specs.Farthest.{noFarther, farthestFrom, farthestWithin, farthestOf}
 
 module _ (rs : List Point) (box : Aabb) (f : Each IsBinary64 rs) (e : boxOfAll rs ≡ some box) where
   row-keeps : (s : Option Witness) (a : Point) → Made s → IsBinary64 a → Made (farthestFrom rs s a)

@@ -18,7 +18,7 @@ use Rattle.primitives.specs.declared.Aabb.{Aabb}
 use Rattle.primitives.specs.Boxes.{boxOfPoint, addPoint}
 use Rattle.extremes.specs.Sweeps.{skipping, boxOfAll}
 use Rattle.extremes.proofs.Repeats.{Repeats, done, once, again, no-repeats, repeats-append}
-use Rattle.farthest.specs.Farthest.{noFarther, farthestFrom, farthestWithin, farthestOf}
+use Rattle.extremes.specs.Farthest.{noFarther, farthestFrom, farthestWithin, farthestOf}
 use Rattle.farthest.specs.Inner.{vertexClass, classVertices, verticesOnce, emptyBox, boxWith, swept, sweptOnce}
 use Rattle.farthest.proofs.Repeated.{farthest-repeats}
 

@@ -20,7 +20,7 @@ use Rattle.primitives.specs.Boxes.{addPoint}
 use Rattle.extremes.specs.Sweeps.{skipping}
 use Rattle.farthest.specs.declared.Best.{Best}
 use Rattle.farthest.specs.declared.Classes.{Classes}
-use Rattle.farthest.specs.Farthest.{noFarther, farthestFrom}
+use Rattle.extremes.specs.Farthest.{noFarther, farthestFrom}
 
 -- ---- the best pair so far
 

@@ -1,3 +1,1 @@
-pub mod Farthest
-pub mod Answer
 pub mod Inner

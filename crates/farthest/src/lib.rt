@@ -1,4 +1,5 @@
 // The farthest sweep: plain loops over the runs of two workspaces, class by class.
+use extremes::ExtremePair;
 use primitives::Aabb;
 use primitives::Point;
 use primitives::Witness;
@@ -13,15 +14,9 @@ ghost use Rattle.parts.specs.Stored.{pointsFrom, storedRuns, runCount, Laid};
 ghost use Rattle.primitives.specs.Vectors.{squaredDistance};
 ghost use Rattle.primitives.specs.Witnesses.{betweenOf};
 ghost use Rattle.extremes.specs.Sweeps.{taking, longer};
-ghost use Rattle.farthest.specs.Farthest.{noFarther, farthestFrom, farthestOf};
-ghost use Rattle.farthest.specs.Answer.{answerOf};
+ghost use Rattle.extremes.specs.Farthest.{noFarther, farthestFrom, farthestOf};
+ghost use Rattle.extremes.specs.Found.{answerOf};
 ghost use Rattle.farthest.specs.Inner.{pairOf, Sound, Keeps, classAt, classVertices, verticesOnce, occurs, Occurs, emptyBox, boxWith, swept, sweptOnce};
-
-// The farthest pair, or none.
-pub enum FarthestPair {
-    Nothing,
-    Found(Witness),
-}
 
 // The best pair so far: its sum of squares and its witness. While there is none, the distance is below 0 and the sum NaN.
 pub struct Best {
@@ -427,7 +422,7 @@ fn visit_all(floats1: &[f64], table1: &[u32], floats2: &[f64], table2: &[u32]) -
 }
 
 // The farthest pair of a vertex of side 1 and one of side 2.
-pub fn farthest(floats1: &[f64], table1: &[u32], floats2: &[f64], table2: &[u32]) -> FarthestPair
+pub fn farthest(floats1: &[f64], table1: &[u32], floats2: &[f64], table2: &[u32]) -> ExtremePair
     requires { ⌜ Laid (now table1) (now floats1) ⌝ }
     requires { ⌜ Laid (now table2) (now floats2) ⌝ }
     ensures { λ r. ⌜ r ≡ answerOf (farthestOf (verticesOf (storedRuns (now (table1 .entry)) (now (floats1 .entry)))) (verticesOf (storedRuns (now (table2 .entry)) (now (floats2 .entry))))) ⌝ }
@@ -435,8 +430,8 @@ pub fn farthest(floats1: &[f64], table1: &[u32], floats2: &[f64], table2: &[u32]
     let all = visit_all(floats1, table1, floats2, table2);
     let w = all.w;
     if w.d < 0.0 {
-        FarthestPair::Nothing
+        ExtremePair::Nothing
     } else {
-        FarthestPair::Found(w)
+        ExtremePair::Found(w)
     }
 }

@@ -4,42 +4,28 @@ use mathlib.Core.Bool.{Bool, true, false, cond, _&&_, false≢true}
 use mathlib.Core.List.{List}
 use mathlib.Core.Option.{none, some}
 use lib.Dec.{T}
-use lib.Ieee.{Float, nan, binary64, lt, le, eq, fits}
+use lib.Ieee.{Float, binary64, lt, le, eq, fits}
 use Rattle.ieee754.specs.MinMax.{positiveZero}
 use Rattle.ieee754.specs.Root.{rootOf}
 use Rattle.ieee754.proofs.FloatOrder.{nan-le}
-use Rattle.ieee754.proofs.RootLaws.{root-fits, le→roots-not-lt}
+use Rattle.ieee754.proofs.RootLaws.{le→roots-not-lt}
 use Rattle.primitives.specs.declared.Witness.{Witness}
 use Rattle.primitives.specs.Witnesses.{witnessOf, smallerOf, flippedOf}
 use Rattle.measures.specs.declared.Squared.{Squared}
 use Rattle.measures.specs.Squared.{rooted, Squares}
 use Rattle.extremes.specs.Sweeps.{shorter, taking}
 use Rattle.extremes.proofs.Lists.{Each, each-weaken}
-use Rattle.extremes.proofs.Taking.{BestFits, unbeaten-stays, unbeaten-row}
-use Rattle.items.specs.declared.Best.{Best}
-use Rattle.items.specs.Inner.{bestOf, Sound, Keeps, noneLess, offeredAll, flippedIf}
+use Rattle.extremes.proofs.Taking.{unbeaten-stays, unbeaten-row}
+use Rattle.extremes.specs.declared.Best.{Best}
+use Rattle.items.specs.Inner.{noneLess, offeredAll, flippedIf}
+use Rattle.extremes.specs.InnerBest.{bestOf, Sound, Keeps}
+use Rattle.extremes.proofs.BestSoFar.{empty}
 use Rattle.ieee754.proofs.NotBelowZero.{root-not-below}
 use Rattle.items.proofs.NotBelowZero.{Distant}
 use Rattle.items.proofs.Roots.{root-of-zero}
 
 holds : (t : Bool) → t ≡ true → T t
 holds t e = subst T (sym e) tt
-
--- whether there is no witness
-abbrev empty : Best → Bool
-empty b = lt (b .witness .d) positiveZero
-
--- no witness yet
-pub none-held : (w : Witness) → lt (w .d) positiveZero ≡ true → Keeps (record { sum = nan; witness = w }) none
-none-held w e = record { same = rw e; sound = record { empty = λ t. refl; root = λ t. absurd (false≢true (sym t ∙ e)); fitting = unfold fits in tt } }
-
--- the distance of the best is a value of binary64
-pub sound-fits : (b : Best) → Sound b → BestFits (bestOf b)
-sound-fits b h = go (empty b) refl
-  where
-    go : (t : Bool) → empty b ≡ t → BestFits (cond t none (some (b .witness)))
-    go true e = tt
-    go false e = rw (h .root e) (root-fits (b .sum) (h .fitting))
 
 pub flipped-distance : (flip : Bool) (w : Witness) → flippedIf flip w .d ≡ w .d
 flipped-distance false w = refl

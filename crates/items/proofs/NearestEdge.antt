@@ -17,7 +17,7 @@ use Rattle.measures.specs.Measures.{pointSegment, pointEdges}
 use Rattle.extremes.specs.Sweeps.{shorter, taking}
 use Rattle.extremes.proofs.Lists.{each-all}
 use Rattle.extremes.proofs.Taking.{BestFits}
-use Rattle.items.specs.declared.Best.{Best}
+use Rattle.extremes.specs.declared.Best.{Best}
 use Rattle.items.specs.Inner.{offeredAll, flippedIf}
 use Rattle.items.proofs.NotBelowZero.{Distant, flipped, point-segment}
 use Rattle.items.proofs.Roots.{root-real, root-nan}

@@ -8,11 +8,12 @@ use Rattle.measures.specs.Measures.{segmentSegment, pointTriangle}
 use Rattle.extremes.specs.Sweeps.{shorter, taking}
 use Rattle.extremes.proofs.Lists.{Each}
 use Rattle.items.specs.Items.{triangle}
-use Rattle.items.specs.Inner.{bestOf, Sound, Keeps, offeredAll, flippedIf, edgeWitnesses}
+use Rattle.items.specs.Inner.{offeredAll, flippedIf, edgeWitnesses}
+use Rattle.extremes.specs.InnerBest.{bestOf, Sound, Keeps}
 use Rattle.items.specs.Repeats.{AllSettled, firstBefore, secondBefore}
-use Rattle.items.specs.declared.Best.{Best}
+use Rattle.extremes.specs.declared.Best.{Best}
 use Rattle.items.proofs.NotBelowZero.{Distant}
-use Rattle.items.proofs.BestWitness.{sound-fits}
+use Rattle.extremes.proofs.BestSoFar.{sound-fits}
 use Rattle.items.proofs.Repeats.{settled-stays, first-distant, second-distant}
 
 -- at the best k, what the triangle a b c, or d e f, shares with the one before it changes nothing, where that one was measured

@@ -19,7 +19,7 @@ use Rattle.items.specs.Items.{Item, point, segment, triangle, pointsOf, 
 use Rattle.items.specs.declared.Class.{Class}
 use Rattle.items.specs.declared.Class.the-variants.{Points, Segments, Triangles}
 use Rattle.items.specs.declared.Shape.{Shape}
-use Rattle.items.specs.declared.Best.{Best}
+use Rattle.extremes.specs.declared.Best.{Best}
 
 -- a point is a, a segment a b, a triangle a b c
 abbrev pub itemBy : Class → Point → Point → Point → Item
@@ -57,21 +57,6 @@ abbrev pub itemAt : Class → List Float → ℕ → ℕ → Item
 itemAt Points floats at j = point (pointAt floats (at + j))
 itemAt Segments floats at j = segment (pointAt floats (at + j)) (pointAt floats (at + j + 1))
 itemAt Triangles floats at j = triangle (pointAt floats at) (pointAt floats (at + j + 1)) (pointAt floats (at + j + 2))
-
--- the witness; a distance below 0 stands for none
-abbrev pub bestOf : Best → Option Witness
-bestOf best = cond (lt (best .witness .d) positiveZero) none (some (best .witness))
-
--- the sum is NaN while there is no witness, and else what its distance is the root of
-pub record Sound (b : Best) : Type 0 where
-  pub empty : lt (b .witness .d) positiveZero ≡ true → b .sum ≡ nan
-  pub root : lt (b .witness .d) positiveZero ≡ false → b .witness .d ≡ rootOf (b .sum)
-  pub fitting : T (fits binary64 (b .sum))
-
--- b is sound and has that best
-pub record Keeps (b : Best) (best : Option Witness) : Type 0 where
-  pub same : bestOf b ≡ best
-  pub sound : Sound b
 
 -- each of three sums is at least the best's; not so where one is NaN
 abbrev pub noneLess : Float → Float → Float → Float → Bool

@@ -1,4 +1,5 @@
 pub mod Items
 pub mod Candidates
+pub mod Closest
 pub mod Inner
 pub mod Repeats

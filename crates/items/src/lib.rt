@@ -1,4 +1,5 @@
 // Items of the closest sweep, by value, and what two of them offer.
+use extremes::Best;
 use measures::Squared;
 use primitives::Aabb;
 use primitives::Point;
@@ -18,7 +19,8 @@ ghost use Rattle.measures.specs.Squared.{rooted};
 ghost use Rattle.extremes.specs.Sweeps.{shorter, taking};
 ghost use Rattle.items.specs.Items.{point, segment, triangle, boxOfItem};
 ghost use Rattle.items.specs.Candidates.{candidatesOf};
-ghost use Rattle.items.specs.Inner.{itemOf, isOfClass, itemCount, itemAt, bestOf, Sound, Keeps, noneLess, offeredAll, flippedIf, edgeWitnesses, vertexWitnesses};
+ghost use Rattle.items.specs.Inner.{itemOf, isOfClass, itemCount, itemAt, noneLess, offeredAll, flippedIf, edgeWitnesses, vertexWitnesses};
+ghost use Rattle.extremes.specs.InnerBest.{bestOf, Sound, Keeps};
 ghost use Rattle.items.specs.Repeats.{AllSettled, firstBefore, secondBefore};
 
 // The classes of items.
@@ -143,30 +145,6 @@ pub fn gap_to(class: Class, a_box: Aabb, floats: &[f64], at: usize, n: usize, j:
             let c = parts::point_at(floats, next + 2);
             a_box.min_dist_sq(triangle_box(first, b, c))
         }
-    }
-}
-
-// The best witness so far and the sum of squares that its distance is the root of. While there is none, the distance is below 0 and the sum NaN.
-pub struct Best {
-    pub sum: f64,
-    pub witness: Witness,
-}
-
-// No witness yet.
-pub fn none_yet() -> Best
-    ensures { λ r. ⌜ Keeps r none ⌝ }
-{
-    Best {
-        sum: 0.0 / 0.0,
-        witness: Witness {
-            d: -1.0,
-            ax: 0.0,
-            ay: 0.0,
-            az: 0.0,
-            bx: 0.0,
-            by: 0.0,
-            bz: 0.0,
-        },
     }
 }
 

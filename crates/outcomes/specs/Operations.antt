@@ -19,9 +19,9 @@ use Rattle.coords.specs.Walk.{Coordinate}
 use Rattle.coords.specs.Parts.{mapRuns, verticesOf}
 use Rattle.blob.specs.Blob.{runsOfBlob}
 use Rattle.operands.specs.Operands.{Workspaces, lentChecks, filled}
-use Rattle.farthest.specs.Farthest.{farthestOf}
+use Rattle.extremes.specs.Farthest.{farthestOf}
 use Rattle.items.specs.Items.{Item, itemsOf}
-use Rattle.closest.specs.Closest.{closestOf}
+use Rattle.items.specs.Closest.{closestOf}
 use Rattle.outcomes.specs.Answers.{Value, number, decided, blob, nothing, Report, refusing, answering}
 
 -- what a call answers and leaves: a report, both workspaces, the output

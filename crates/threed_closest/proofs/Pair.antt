@@ -5,14 +5,14 @@ use mathlib.Core.Option.{Option, none, some}
 use Prim.Native.Nat.{ℕ}
 use Rattle.primitives.specs.declared.Witness.{Witness}
 use Rattle.operands.specs.Operands.{Workspaces}
-use Rattle.closest.specs.Closest as closest
-use Rattle.closest.specs.declared.ClosestPair.{ClosestPair}
-use Rattle.closest.specs.declared.ClosestPair.the-variants as closest-pair
+use Rattle.extremes.specs.Found as closest
+use Rattle.extremes.specs.declared.ExtremePair.{ExtremePair}
+use Rattle.extremes.specs.declared.ExtremePair.the-variants as closest-pair
 use Rattle.outcomes.specs.Operations.{closestPair}
 use Rattle.outcomes.proofs.Outcomes.{told}
 use Rattle.threed_closest.specs.Inner.{ClosestRead}
 
-abbrev closestTold : ClosestPair → Option Witness
+abbrev closestTold : ExtremePair → Option Witness
 closestTold closest-pair.Nothing = none
 closestTold (closest-pair.Found x) = some x
 
@@ -21,5 +21,5 @@ unfolding closest.answerOf
 closest-inverse none = refl
 closest-inverse (some x) = refl
 
-pub closest-told : (a b : List ℕ) (w w′ : Workspaces) (r : ClosestPair) → ClosestRead a b w w′ r → (s : ClosestPair) → r ≡ s → closestPair a b ≡ closestTold s
+pub closest-told : (a b : List ℕ) (w w′ : Workspaces) (r : ExtremePair) → ClosestRead a b w w′ r → (s : ExtremePair) → r ≡ s → closestPair a b ≡ closestTold s
 closest-told a b w w′ r read s q = told closest.answerOf closestTold closest-inverse (closestPair a b) r s (read .pair) q

@@ -1,6 +1,6 @@
 // 3D measures by the closest pair of points, segments and triangles of two blobs: document 01's distance, within, intersects, closest point and shortest line, for every input.
 // Undecided in its contracts is only the payload, sign included, of a NaN in a workspace or in an answered number; output bytes are wholly decided.
-use closest::ClosestPair;
+use extremes::ExtremePair;
 use operands::Checked;
 use operands::Operands;
 use outcomes::Answer;
@@ -35,7 +35,7 @@ fn closest_pair(
     floats2: &mut [f64],
     table2: &mut [u32],
     stop_at_zero: bool,
-) -> ClosestPair
+) -> ExtremePair
     requires { ⌜ o ≡ operandsOf (now a) (now b) ⌝ }
     requires { ⌜ Ready (now a) (now b) (length (now floats1)) (length (now table1)) (length (now floats2)) (length (now table2)) ⌝ }
     ensures { λ r. ⌜ ClosestRead (now (a .entry)) (now (b .entry)) (workspaces (now (floats1 .entry)) (now (table1 .entry)) (now (floats2 .entry)) (now (table2 .entry))) (workspaces (now (floats1 .exit)) (now (table1 .exit)) (now (floats2 .exit)) (now (table2 .exit))) r ⌝ }
@@ -86,8 +86,8 @@ pub fn st_3d_distance(
             table2,
             false,
         ) {
-            ClosestPair::Nothing => Answer::Nothing,
-            ClosestPair::Found(w) => Answer::Measured(w.d),
+            ExtremePair::Nothing => Answer::Nothing,
+            ExtremePair::Found(w) => Answer::Measured(w.d),
         },
     }
 }
@@ -148,8 +148,8 @@ pub fn st_3d_intersects(
             table2,
             true,
         ) {
-            ClosestPair::Nothing => Decision::No,
-            ClosestPair::Found(w) => if w.d == 0.0 {
+            ExtremePair::Nothing => Decision::No,
+            ExtremePair::Found(w) => if w.d == 0.0 {
                 Decision::Yes
             } else {
                 Decision::No
@@ -187,8 +187,8 @@ pub fn st_3d_closest_point(
                 });
             }
             match closest_pair(a, b, o, floats1, table1, floats2, table2, false) {
-                ClosestPair::Nothing => Written::Nothing,
-                ClosestPair::Found(w) => {
+                ExtremePair::Nothing => Written::Nothing,
+                ExtremePair::Found(w) => {
                     gpb::write_point(output, o.srid, w.ax, w.ay, w.az);
                     Written::Blob
                 }
@@ -227,8 +227,8 @@ pub fn st_3d_shortest_line(
                 });
             }
             match closest_pair(a, b, o, floats1, table1, floats2, table2, false) {
-                ClosestPair::Nothing => Written::Nothing,
-                ClosestPair::Found(w) => {
+                ExtremePair::Nothing => Written::Nothing,
+                ExtremePair::Found(w) => {
                     gpb::write_line(output, o.srid, w.ax, w.ay, w.az, w.bx, w.by, w.bz);
                     Written::Blob
                 }

@@ -5,14 +5,14 @@ use mathlib.Core.Option.{Option, none, some}
 use Prim.Native.Nat.{ℕ}
 use Rattle.primitives.specs.declared.Witness.{Witness}
 use Rattle.operands.specs.Operands.{Workspaces}
-use Rattle.farthest.specs.Answer as farthest
-use Rattle.farthest.specs.declared.FarthestPair.{FarthestPair}
-use Rattle.farthest.specs.declared.FarthestPair.the-variants as farthest-pair
+use Rattle.extremes.specs.Found as farthest
+use Rattle.extremes.specs.declared.ExtremePair.{ExtremePair}
+use Rattle.extremes.specs.declared.ExtremePair.the-variants as farthest-pair
 use Rattle.outcomes.specs.Operations.{farthestPair}
 use Rattle.outcomes.proofs.Outcomes.{told}
 use Rattle.threed_farthest.specs.Inner.{FarthestRead}
 
-abbrev farthestTold : FarthestPair → Option Witness
+abbrev farthestTold : ExtremePair → Option Witness
 farthestTold farthest-pair.Nothing = none
 farthestTold (farthest-pair.Found x) = some x
 
@@ -21,5 +21,5 @@ unfolding farthest.answerOf
 farthest-inverse none = refl
 farthest-inverse (some x) = refl
 
-pub farthest-told : (a b : List ℕ) (w w′ : Workspaces) (r : FarthestPair) → FarthestRead a b w w′ r → (s : FarthestPair) → r ≡ s → farthestPair a b ≡ farthestTold s
+pub farthest-told : (a b : List ℕ) (w w′ : Workspaces) (r : ExtremePair) → FarthestRead a b w w′ r → (s : ExtremePair) → r ≡ s → farthestPair a b ≡ farthestTold s
 farthest-told a b w w′ r read s q = told farthest.answerOf farthestTold farthest-inverse (farthestPair a b) r s (read .pair) q

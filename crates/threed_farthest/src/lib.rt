@@ -1,6 +1,6 @@
 // 3D measures by the farthest pair of vertices of two blobs: document 01's max distance, fully within and longest line, for every input.
 // Undecided in its contracts is only the payload, sign included, of a NaN in a workspace or in an answered number; output bytes are wholly decided.
-use farthest::FarthestPair;
+use extremes::ExtremePair;
 use operands::Checked;
 use operands::Operands;
 use outcomes::Answer;
@@ -31,7 +31,7 @@ fn farthest_pair(
     table1: &mut [u32],
     floats2: &mut [f64],
     table2: &mut [u32],
-) -> FarthestPair
+) -> ExtremePair
     requires { ⌜ o ≡ operandsOf (now a) (now b) ⌝ }
     requires { ⌜ Ready (now a) (now b) (length (now floats1)) (length (now table1)) (length (now floats2)) (length (now table2)) ⌝ }
     ensures { λ r. ⌜ FarthestRead (now (a .entry)) (now (b .entry)) (workspaces (now (floats1 .entry)) (now (table1 .entry)) (now (floats2 .entry)) (now (table2 .entry))) (workspaces (now (floats1 .exit)) (now (table1 .exit)) (now (floats2 .exit)) (now (table2 .exit))) r ⌝ }
@@ -72,8 +72,8 @@ pub fn st_3d_max_distance(
     ) {
         Checked::Refused(refusal) => Answer::Refused(refusal),
         Checked::Accepted(o) => match farthest_pair(a, b, o, floats1, table1, floats2, table2) {
-            FarthestPair::Nothing => Answer::Nothing,
-            FarthestPair::Found(w) => Answer::Measured(w.d),
+            ExtremePair::Nothing => Answer::Nothing,
+            ExtremePair::Found(w) => Answer::Measured(w.d),
         },
     }
 }
@@ -130,8 +130,8 @@ pub fn st_3d_longest_line(
                 });
             }
             match farthest_pair(a, b, o, floats1, table1, floats2, table2) {
-                FarthestPair::Nothing => Written::Nothing,
-                FarthestPair::Found(w) => {
+                ExtremePair::Nothing => Written::Nothing,
+                ExtremePair::Found(w) => {
                     gpb::write_line(output, o.srid, w.ax, w.ay, w.az, w.bx, w.by, w.bz);
                     Written::Blob
                 }

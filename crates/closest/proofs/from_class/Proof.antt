@@ -10,9 +10,10 @@ use Rattle.extremes.specs.Sweeps.{skipping}
 use Rattle.parts.proofs.Turns.{RoomFrom, room-start, room-run, room-next}
 use Rattle.parts.specs.Stored.{runsFrom, storedRuns, runCount}
 use Rattle.items.proofs.Turns.{turn-run, pass-run, no-items}
-use Rattle.items.specs.Inner.{classItems, bestOf, Sound}
+use Rattle.items.specs.Inner.{classItems}
+use Rattle.extremes.specs.InnerBest.{bestOf, Sound}
 use Rattle.items.specs.Items.{itemsOf}
-use Rattle.closest.specs.Closest.{sweepOf}
+use Rattle.items.specs.Closest.{sweepOf}
 use Rattle.closest.proofs.Folds.{sweep-append}
 use Rattle.closest.proofs.from_class.Statement.{statement}
 use Rattle.closest.proofs.from_class.Tie as tie

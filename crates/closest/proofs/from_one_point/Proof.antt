@@ -5,7 +5,8 @@ use native.Mathlib.Omega.{arith}
 use borrow.Author.Needs.{needs}
 use Rattle.extremes.specs.Sweeps.{skipping}
 use Rattle.items.specs.Items.{itemsOf}
-use Rattle.closest.specs.Closest.{noCloser, withItem, withEach}
+use Rattle.items.specs.Closest.{withItem, withEach}
+use Rattle.extremes.specs.ClosestSweep.{noCloser}
 use Rattle.closest.proofs.Folds.{each-append}
 use Rattle.closest.proofs.OnePoint.{one-item, one-laid}
 use Rattle.closest.proofs.from_one_point.Statement.{statement}

@@ -8,10 +8,11 @@ use Rattle.extremes.specs.Sweeps.{skipping}
 use Rattle.parts.specs.Stored.{pointsFrom, storedRuns}
 use Rattle.items.proofs.Repeats.{first-turn}
 use Rattle.items.proofs.Turns.{itemsLeft, left-start, left-none, turn-item}
-use Rattle.items.specs.Inner.{itemAt, itemsBy, itemCount, bestOf, Sound}
+use Rattle.items.specs.Inner.{itemAt, itemsBy, itemCount}
+use Rattle.extremes.specs.InnerBest.{bestOf, Sound}
 use Rattle.items.specs.Items.{itemsOf}
 use Rattle.items.specs.Repeats.{firstBefore}
-use Rattle.closest.specs.Closest.{sweepOf}
+use Rattle.items.specs.Closest.{sweepOf}
 use Rattle.closest.specs.Known.{Known}
 use Rattle.closest.proofs.Folds.{and-true, sweep-next, sweep-at-zero}
 use Rattle.closest.proofs.Known.{none-known}

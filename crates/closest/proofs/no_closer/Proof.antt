@@ -1,6 +1,6 @@
 -- `closest::no_closer` meets its contract. Assumes nothing.
 use lib.Ieee.{ofBits}
-use Rattle.closest.specs.Closest.{noCloser}
+use Rattle.extremes.specs.ClosestSweep.{noCloser}
 use Rattle.closest.proofs.no_closer.Statement.{statement}
 use Rattle.closest.proofs.no_closer.Tie as tie
 

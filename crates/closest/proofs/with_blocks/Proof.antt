@@ -9,8 +9,9 @@ use lib.ListN.{take, drop}
 use Rattle.parts.specs.Stored.{storedRuns}
 use Rattle.extremes.proofs.BoxOfAll.{Fitting}
 use Rattle.items.specs.Items.{boxOfItem}
-use Rattle.items.specs.Inner.{itemOf, classItems, bestOf, Sound, Keeps}
-use Rattle.closest.specs.Closest.{withEach}
+use Rattle.items.specs.Inner.{itemOf, classItems}
+use Rattle.extremes.specs.InnerBest.{bestOf, Sound, Keeps}
+use Rattle.items.specs.Closest.{withEach}
 use Rattle.closest.proofs.Folds.{and-true, each-none, each-at-zero}
 use Rattle.closest.proofs.Blocks.{block-next, block-end, block-passed}
 use Rattle.closest.proofs.ItemBoxes.{fitting-by}

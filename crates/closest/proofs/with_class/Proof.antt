@@ -9,8 +9,9 @@ use Rattle.workspace.specs.Workspace.{numbersPerRun}
 use Rattle.parts.proofs.Turns.{RoomFrom, room-start, room-run, room-next}
 use Rattle.parts.specs.Stored.{runsFrom, storedRuns, runCount}
 use Rattle.items.proofs.Turns.{turn-run, pass-run, no-items}
-use Rattle.items.specs.Inner.{itemOf, classItems, bestOf, Sound}
-use Rattle.closest.specs.Closest.{withEach}
+use Rattle.items.specs.Inner.{itemOf, classItems}
+use Rattle.extremes.specs.InnerBest.{bestOf, Sound}
+use Rattle.items.specs.Closest.{withEach}
 use Rattle.closest.proofs.Folds.{each-append, each-none}
 use Rattle.closest.proofs.with_class.Statement.{statement}
 use Rattle.closest.proofs.with_class.Tie as tie

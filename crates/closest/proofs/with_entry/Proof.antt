@@ -1,5 +1,5 @@
 -- `closest::with_entry` meets its contract. Assumes nothing.
-use Rattle.closest.specs.Closest.{withItem}
+use Rattle.items.specs.Closest.{withItem}
 use Rattle.closest.proofs.Known.{again-settled}
 use Rattle.closest.proofs.with_entry.Statement.{statement}
 use Rattle.closest.proofs.with_entry.Tie as tie

@@ -8,11 +8,13 @@ use borrow.Author.Needs.{needs}
 use borrow.Author.Tests.{not-true}
 use Rattle.primitives.specs.Boxes.{leastSquaredGap}
 use Rattle.items.specs.Items.{boxOfItem}
-use Rattle.items.specs.Inner.{itemOf, bestOf, Sound, Keeps}
-use Rattle.items.proofs.BestWitness.{sound-fits}
+use Rattle.items.specs.Inner.{itemOf}
+use Rattle.extremes.specs.InnerBest.{bestOf, Sound, Keeps}
+use Rattle.extremes.proofs.BestSoFar.{sound-fits}
 use Rattle.listing.specs.Listing.{listedItem, listedFrom}
 use Rattle.listing.proofs.Listed.{listed-next, listed-none}
-use Rattle.closest.specs.Closest.{noCloser, withItem, withEach}
+use Rattle.items.specs.Closest.{withItem, withEach}
+use Rattle.extremes.specs.ClosestSweep.{noCloser}
 use Rattle.closest.proofs.Folds.{and-true, each-none, each-next, each-at-zero}
 use Rattle.closest.proofs.Known.{Walked, walked-start, walked-next, walked-end, known-zero}
 use Rattle.closest.proofs.with_list.Statement.{statement}

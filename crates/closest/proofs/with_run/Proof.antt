@@ -9,8 +9,10 @@ use Rattle.parts.specs.Stored.{pointsFrom}
 use Rattle.primitives.specs.Boxes.{leastSquaredGap}
 use Rattle.items.specs.Items.{boxOfItem}
 use Rattle.items.proofs.Turns.{itemsLeft, left-start, left-none, turn-item}
-use Rattle.items.specs.Inner.{itemOf, itemAt, itemsBy, itemCount, bestOf, Sound, Keeps}
-use Rattle.closest.specs.Closest.{noCloser, withItem, withEach}
+use Rattle.items.specs.Inner.{itemOf, itemAt, itemsBy, itemCount}
+use Rattle.extremes.specs.InnerBest.{bestOf, Sound, Keeps}
+use Rattle.items.specs.Closest.{withItem, withEach}
+use Rattle.extremes.specs.ClosestSweep.{noCloser}
 use Rattle.closest.proofs.Folds.{and-true, each-none, each-next, each-at-zero}
 use Rattle.closest.proofs.with_run.Statement.{statement}
 use Rattle.closest.proofs.with_run.Tie as tie

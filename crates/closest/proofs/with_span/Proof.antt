@@ -12,9 +12,11 @@ use Rattle.parts.proofs.Turns.{room-run, room-next}
 use Rattle.primitives.specs.Boxes.{leastSquaredGap}
 use Rattle.items.specs.Items.{boxOfItem}
 use Rattle.items.specs.Repeats.{AllSettled, secondBefore}
-use Rattle.items.proofs.BestWitness.{sound-fits}
-use Rattle.items.specs.Inner.{itemOf, itemAt, bestOf, Sound, Keeps}
-use Rattle.closest.specs.Closest.{noCloser, withItem, withEach}
+use Rattle.extremes.proofs.BestSoFar.{sound-fits}
+use Rattle.items.specs.Inner.{itemOf, itemAt}
+use Rattle.extremes.specs.InnerBest.{bestOf, Sound, Keeps}
+use Rattle.items.specs.Closest.{withItem, withEach}
+use Rattle.extremes.specs.ClosestSweep.{noCloser}
 use Rattle.closest.specs.Spans.{itemsPast, RoomPast}
 use Rattle.closest.proofs.Folds.{and-true, each-none, each-next, each-at-zero}
 use Rattle.closest.proofs.Known.{again-next}

@@ -6,7 +6,7 @@ use native.Mathlib.Omega.{arith}
 use borrow.Author.Needs.{needs}
 use Rattle.parts.proofs.Turns.{RoomFrom, room-start, room-run, room-next}
 use Rattle.parts.specs.Stored.{storedRuns}
-use Rattle.farthest.specs.Farthest.{farthestFrom}
+use Rattle.extremes.specs.Farthest.{farthestFrom}
 use Rattle.farthest.specs.Inner.{pairOf, Sound, classVertices}
 use Rattle.farthest.proofs.Appended.{from-append}
 use Rattle.farthest.proofs.ClassTurns.{classFrom, class-start, class-end, class-taken, class-passed}

@@ -1,7 +1,7 @@
 -- `against_occurring` meets its contract: a class that does not occur has no vertex. Assumes nothing.
 use mathlib.Core.Path.{sym, _∙_}
 use borrow.Author.Needs.{needs}
-use Rattle.farthest.specs.Farthest.{farthestFrom}
+use Rattle.extremes.specs.Farthest.{farthestFrom}
 use Rattle.farthest.proofs.ClassTurns.{absent}
 use Rattle.farthest.proofs.against_occurring.Statement.{statement}
 use Rattle.farthest.proofs.against_occurring.Tie as tie

@@ -9,7 +9,7 @@ use Rattle.workspace.specs.Workspace.{floatsPerCoordinate}
 use Rattle.parts.specs.Stored.{pointsFrom}
 use Rattle.primitives.specs.Witnesses.{betweenOf}
 use Rattle.extremes.specs.Sweeps.{taking, longer}
-use Rattle.farthest.specs.Farthest.{farthestFrom}
+use Rattle.extremes.specs.Farthest.{farthestFrom}
 use Rattle.farthest.specs.Inner.{pairOf, Sound, Keeps}
 use Rattle.farthest.proofs.BestPair.{no-greater-left}
 use Rattle.farthest.proofs.PointTurns.{from-done, from-next}

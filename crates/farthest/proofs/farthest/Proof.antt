@@ -1,7 +1,7 @@
 -- `farthest` meets its contract: the code's sweep is the definition's. Assumes nothing.
 use lib.Ieee.{ofBits}
 use borrow.Author.Needs.{needs}
-use Rattle.farthest.specs.Answer.{answerOf}
+use Rattle.extremes.specs.Found.{answerOf}
 use Rattle.farthest.specs.Inner.{pairOf}
 use Rattle.farthest.proofs.VerticesOnce.{farthest-once}
 use Rattle.farthest.proofs.farthest.Statement.{statement}

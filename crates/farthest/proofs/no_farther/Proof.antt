@@ -1,7 +1,7 @@
 -- `no_farther` meets its contract. Assumes nothing.
 use lib.Ieee.{ofBits}
 use borrow.Author.Needs.{needs}
-use Rattle.farthest.specs.Farthest.{noFarther}
+use Rattle.extremes.specs.Farthest.{noFarther}
 use Rattle.farthest.specs.Inner.{pairOf}
 use Rattle.farthest.proofs.no_farther.Statement.{statement}
 use Rattle.farthest.proofs.no_farther.Tie as tie

@@ -1,8 +1,9 @@
 -- `items::pt_edges` meets its contract. Assumes nothing.
 use borrow.Author.Needs.{needs}
 use lib.Ieee.{ofBits}
-use Rattle.items.specs.Inner.{bestOf}
-use Rattle.items.proofs.BestWitness.{sound-fits, none-less}
+use Rattle.extremes.specs.InnerBest.{bestOf}
+use Rattle.items.proofs.BestWitness.{none-less}
+use Rattle.extremes.proofs.BestSoFar.{sound-fits}
 use Rattle.items.proofs.NearestEdge.{edges-leave, edges-offered, first-kept}
 use Rattle.items.proofs.pt_edges.Statement.{statement}
 use Rattle.items.proofs.pt_edges.Tie as tie

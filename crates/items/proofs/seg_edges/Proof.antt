@@ -3,8 +3,10 @@ use borrow.Author.Needs.{needs}
 use mathlib.Core.Bool.{false}
 use lib.Ieee.{ofBits}
 use Rattle.measures.specs.Measures.{segmentSegment}
-use Rattle.items.specs.Inner.{bestOf, edgeWitnesses}
-use Rattle.items.proofs.BestWitness.{sound-fits, not-less-leaves, none-less, zero-stays}
+use Rattle.items.specs.Inner.{edgeWitnesses}
+use Rattle.extremes.specs.InnerBest.{bestOf}
+use Rattle.items.proofs.BestWitness.{not-less-leaves, none-less, zero-stays}
+use Rattle.extremes.proofs.BestSoFar.{sound-fits}
 use Rattle.items.proofs.NotBelowZero.{segment-segment}
 use Rattle.items.proofs.Repeats.{stays}
 use Rattle.items.proofs.TwoTriangles.{edges-distant}

@@ -6,7 +6,7 @@ use borrow.Author.Needs.{needs}
 use Rattle.measures.specs.Measures.{pointTriangle}
 use Rattle.extremes.specs.Sweeps.{shorter, taking}
 use Rattle.items.specs.Candidates.{candidatesOf}
-use Rattle.items.specs.Inner.{bestOf, Keeps}
+use Rattle.extremes.specs.InnerBest.{bestOf, Keeps}
 use Rattle.items.specs.Repeats.{AllSettled, firstBefore}
 use Rattle.items.proofs.segment_triangle.Statement.{statement}
 use Rattle.items.proofs.segment_triangle.Tie as tie

@@ -9,9 +9,10 @@ use Rattle.ieee754.specs.Root.{rootOf}
 use Rattle.primitives.specs.Witnesses.{witnessOf}
 use Rattle.measures.specs.Measures.{infinitelyFar}
 use Rattle.measures.specs.Squared.{rooted}
-use Rattle.items.specs.Inner.{bestOf, Keeps, offeredAll, edgeWitnesses, vertexWitnesses}
-use Rattle.items.specs.declared.Best.{Best}
-use Rattle.items.proofs.BestWitness.{sound-fits}
+use Rattle.items.specs.Inner.{offeredAll, edgeWitnesses, vertexWitnesses}
+use Rattle.extremes.specs.InnerBest.{bestOf, Keeps}
+use Rattle.extremes.specs.declared.Best.{Best}
+use Rattle.extremes.proofs.BestSoFar.{sound-fits}
 use Rattle.items.proofs.NotBelowZero.{infinite}
 use Rattle.items.proofs.SparedTriangles.{Spared, spared-after, first-vertices, second-vertices, middle-edge, other-edge}
 use Rattle.items.proofs.TwoTriangles.{edges-distant, vertices-distant, triangles-offered}

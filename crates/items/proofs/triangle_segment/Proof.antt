@@ -6,7 +6,7 @@ use Rattle.primitives.specs.Witnesses.{flippedOf}
 use Rattle.measures.specs.Measures.{pointTriangle}
 use Rattle.extremes.specs.Sweeps.{shorter, taking}
 use Rattle.items.specs.Candidates.{candidatesOf}
-use Rattle.items.specs.Inner.{bestOf, Keeps}
+use Rattle.extremes.specs.InnerBest.{bestOf, Keeps}
 use Rattle.items.specs.Repeats.{AllSettled, secondBefore}
 use Rattle.items.proofs.triangle_segment.Statement.{statement}
 use Rattle.items.proofs.triangle_segment.Tie as tie

@@ -2,9 +2,11 @@
 use mathlib.Core.Path.{refl}
 use borrow.Author.Needs.{needs}
 use lib.Ieee.{ofBits}
-use Rattle.items.specs.Inner.{bestOf, vertexWitnesses}
+use Rattle.items.specs.Inner.{vertexWitnesses}
+use Rattle.extremes.specs.InnerBest.{bestOf}
 use Rattle.items.specs.Repeats.{AllSettled}
-use Rattle.items.proofs.BestWitness.{sound-fits, zero-stays}
+use Rattle.items.proofs.BestWitness.{zero-stays}
+use Rattle.extremes.proofs.BestSoFar.{sound-fits}
 use Rattle.items.proofs.Repeats.{again-later}
 use Rattle.items.proofs.TwoTriangles.{vertices-distant}
 use Rattle.items.proofs.vertices.Statement.{statement}

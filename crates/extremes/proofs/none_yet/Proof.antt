@@ -1,9 +1,9 @@
--- `items::none_yet` meets its contract. Assumes nothing.
+-- `extremes::none_yet` meets its contract. Assumes nothing.
 use mathlib.Core.Path.{refl}
 use lib.Ieee.{div, neg, ofBits, lt}
-use Rattle.items.proofs.BestWitness.{none-held}
-use Rattle.items.proofs.none_yet.Statement.{statement}
-use Rattle.items.proofs.none_yet.Tie as tie
+use Rattle.extremes.proofs.BestSoFar.{none-held}
+use Rattle.extremes.proofs.none_yet.Statement.{statement}
+use Rattle.extremes.proofs.none_yet.Tie as tie
 
 returns : tie.Need-returns
 unfolding div neg ofBits

@@ -1,8 +1,8 @@
--- `closest::answered` meets its contract. Assumes nothing.
+-- `extremes::answered` meets its contract. Assumes nothing.
 use lib.Ieee.{ofBits}
-use Rattle.closest.specs.Closest.{answerOf}
-use Rattle.closest.proofs.answered.Statement.{statement}
-use Rattle.closest.proofs.answered.Tie as tie
+use Rattle.extremes.specs.Found.{answerOf}
+use Rattle.extremes.proofs.answered.Statement.{statement}
+use Rattle.extremes.proofs.answered.Tie as tie
 
 returns : tie.Need-returns
 unfolding answerOf ofBits
