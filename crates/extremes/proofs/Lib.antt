@@ -9,6 +9,8 @@ pub mod BoxOfAll
 pub mod BoxSkips
 pub mod Taking
 pub mod BestSoFar
+pub mod EqualRoots
+pub mod Offered
 pub mod Repeats
 pub mod ClosestPoints
 pub mod PointsOnly

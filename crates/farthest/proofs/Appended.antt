@@ -7,9 +7,10 @@ use Rattle.primitives.specs.declared.Point.{Point}
 use Rattle.primitives.specs.declared.Witness.{Witness}
 use Rattle.primitives.specs.declared.Aabb.{Aabb}
 use Rattle.extremes.specs.Sweeps.{skipping}
-use Rattle.farthest.specs.declared.Best.{Best}
+use Rattle.extremes.specs.declared.Best.{Best}
 use Rattle.extremes.specs.Farthest.{farthestFrom}
-use Rattle.farthest.specs.Inner.{pairOf, Keeps, boxWith, swept}
+use Rattle.extremes.specs.InnerBest.{bestOf, Keeps}
+use Rattle.farthest.specs.Inner.{boxWith, swept}
 
 pub from-append : (l m : List Point) (best : Option Witness) (p : Point) → farthestFrom (l ++ m) best p ≡ farthestFrom m (farthestFrom l best p) p
 unfolding farthestFrom
@@ -30,14 +31,14 @@ swept-append box rs best l m = skipping-append _ _ best l m
 
 -- ---- three classes in a row
 
-pub from-classes : (p : Point) (best : Option Witness) (b₁ b₂ b₃ : Best) (l m n : List Point) → Keeps b₁ (farthestFrom l best p) → Keeps b₂ (farthestFrom m (pairOf b₁) p) → Keeps b₃ (farthestFrom n (pairOf b₂) p) → Keeps b₃ (farthestFrom (l ++ (m ++ n)) best p)
+pub from-classes : (p : Point) (best : Option Witness) (b₁ b₂ b₃ : Best) (l m n : List Point) → Keeps b₁ (farthestFrom l best p) → Keeps b₂ (farthestFrom m (bestOf b₁) p) → Keeps b₃ (farthestFrom n (bestOf b₂) p) → Keeps b₃ (farthestFrom (l ++ (m ++ n)) best p)
 from-classes p best b₁ b₂ b₃ l m n h₁ h₂ h₃ =
     record {
       same = h₃ .same ∙ rw (h₂ .same, h₁ .same, ← from-append, ← from-append);
       sound = h₃ .sound;
     }
 
-pub swept-classes : (box : Aabb) (rs : List Point) (best : Option Witness) (b₁ b₂ b₃ : Best) (l m n : List Point) → Keeps b₁ (swept box rs best l) → Keeps b₂ (swept box rs (pairOf b₁) m) → Keeps b₃ (swept box rs (pairOf b₂) n) → Keeps b₃ (swept box rs best (l ++ (m ++ n)))
+pub swept-classes : (box : Aabb) (rs : List Point) (best : Option Witness) (b₁ b₂ b₃ : Best) (l m n : List Point) → Keeps b₁ (swept box rs best l) → Keeps b₂ (swept box rs (bestOf b₁) m) → Keeps b₃ (swept box rs (bestOf b₂) n) → Keeps b₃ (swept box rs best (l ++ (m ++ n)))
 swept-classes box rs best b₁ b₂ b₃ l m n h₁ h₂ h₃ =
     record {
       same = h₃ .same ∙ rw (h₂ .same, h₁ .same, ← swept-append, ← swept-append);

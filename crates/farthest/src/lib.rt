@@ -1,12 +1,15 @@
 // The farthest sweep: plain loops over the runs of two workspaces, class by class.
+use extremes::Best;
 use extremes::ExtremePair;
 use primitives::Aabb;
 use primitives::Point;
 use primitives::Witness;
 ghost use mathlib.Core.Path.{_≡_};
 ghost use mathlib.Core.List.{[], _∷_};
+ghost use mathlib.Core.Bool.{false};
 ghost use mathlib.Core.Option.{none};
 ghost use Prim.Native.Nat.{_+_, _*_, _≤_, _<_};
+ghost use lib.Ieee.{le};
 ghost use lib.ListN.{length};
 ghost use Rattle.coords.specs.Parts.{verticesOf};
 ghost use Rattle.workspace.specs.Workspace.{floatsPerCoordinate};
@@ -16,13 +19,8 @@ ghost use Rattle.primitives.specs.Witnesses.{betweenOf};
 ghost use Rattle.extremes.specs.Sweeps.{taking, longer};
 ghost use Rattle.extremes.specs.Farthest.{noFarther, farthestFrom, farthestOf};
 ghost use Rattle.extremes.specs.Found.{answerOf};
-ghost use Rattle.farthest.specs.Inner.{pairOf, Sound, Keeps, classAt, classVertices, verticesOnce, occurs, Occurs, emptyBox, boxWith, swept, sweptOnce};
-
-// The best pair so far: its sum of squares and its witness. While there is none, the distance is below 0 and the sum NaN.
-pub struct Best {
-    pub sum: f64,
-    pub w: Witness,
-}
+ghost use Rattle.extremes.specs.InnerBest.{bestOf, Sound, Keeps};
+ghost use Rattle.farthest.specs.Inner.{classAt, classVertices, verticesOnce, occurs, Occurs, emptyBox, boxWith, swept, sweptOnce};
 
 // Which classes a table has.
 pub struct Classes {
@@ -31,38 +29,35 @@ pub struct Classes {
     pub faces: bool,
 }
 
-// The better of the best pair and p with q, whose sum of squares is s: first pair taken, later ones only if strictly longer.
+// The better of the best pair and p with q, whose sum of squares s is greater than the best's, or one of them is NaN: first pair taken, later ones only if strictly longer.
+// Where the roots are equal the greater sum is kept: it spares the roots of all sums up to it.
 fn offer(best: Best, p: Point, q: Point, s: f64) -> Best
     requires { ⌜ Sound best ⌝ }
     requires { ⌜ s ≡ squaredDistance p q ⌝ }
-    ensures { λ r. ⌜ Keeps r (taking longer (pairOf best) (betweenOf p q)) ⌝ }
+    requires { ⌜ le s (best .sum) ≡ false ⌝ }
+    ensures { λ r. ⌜ Keeps r (taking longer (bestOf best) (betweenOf p q)) ⌝ }
 {
-    let d = ieee754::root(s);
-    let longest = best.w.d;
-    if longest < 0.0 {} else {
-        if d > longest {} else {
+    let w = Witness::between(p, q);
+    let longest = best.witness;
+    if longest.d < 0.0 {} else {
+        if w.d > longest.d {} else {
+            if w.d == longest.d {
+                return Best {
+                    sum: s,
+                    witness: longest,
+                };
+            }
             return best;
         }
     }
-    Best {
-        sum: s,
-        w: Witness {
-            d,
-            ax: p.x,
-            ay: p.y,
-            az: p.z,
-            bx: q.x,
-            by: q.y,
-            bz: q.z,
-        },
-    }
+    Best { sum: s, witness: w }
 }
 
 // p against the points of a run. No root is taken where the sum of squares is no greater than the best pair's.
 fn against_run(best: Best, p: Point, floats: &[f64], first: usize, count: usize) -> Best
     requires { ⌜ Sound best ⌝ }
     requires { ⌜ floatsPerCoordinate * (first + count) ≤ length (now floats) ⌝ }
-    ensures { λ r. ⌜ Keeps r (farthestFrom (pointsFrom (now (floats .entry)) first count) (pairOf best) p) ⌝ }
+    ensures { λ r. ⌜ Keeps r (farthestFrom (pointsFrom (now (floats .entry)) first count) (bestOf best) p) ⌝ }
 {
     let mut b = best;
     let mut at = first;
@@ -97,7 +92,7 @@ fn class_at(table: &[u32], r: usize) -> u32
 fn against_class(best: Best, p: Point, floats: &[f64], table: &[u32], class: u32) -> Best
     requires { ⌜ Sound best ⌝ }
     requires { ⌜ Laid (now table) (now floats) ⌝ }
-    ensures { λ r. ⌜ Keeps r (farthestFrom (classVertices class (storedRuns (now (table .entry)) (now (floats .entry)))) (pairOf best) p) ⌝ }
+    ensures { λ r. ⌜ Keeps r (farthestFrom (classVertices class (storedRuns (now (table .entry)) (now (floats .entry)))) (bestOf best) p) ⌝ }
 {
     let runs = parts::run_count(table);
     let mut b = best;
@@ -152,7 +147,7 @@ fn against_occurring(
     requires { ⌜ Sound best ⌝ }
     requires { ⌜ Laid (now table) (now floats) ⌝ }
     requires { ⌜ any ≡ occurs class (now table) ⌝ }
-    ensures { λ r. ⌜ Keeps r (farthestFrom (classVertices class (storedRuns (now (table .entry)) (now (floats .entry)))) (pairOf best) p) ⌝ }
+    ensures { λ r. ⌜ Keeps r (farthestFrom (classVertices class (storedRuns (now (table .entry)) (now (floats .entry)))) (bestOf best) p) ⌝ }
 {
     if any {
         return against_class(best, p, floats, table, class);
@@ -165,7 +160,7 @@ fn against_all(best: Best, p: Point, floats: &[f64], table: &[u32], has: Classes
     requires { ⌜ Sound best ⌝ }
     requires { ⌜ Laid (now table) (now floats) ⌝ }
     requires { ⌜ Occurs has (now table) ⌝ }
-    ensures { λ r. ⌜ Keeps r (farthestFrom (verticesOnce (storedRuns (now (table .entry)) (now (floats .entry)))) (pairOf best) p) ⌝ }
+    ensures { λ r. ⌜ Keeps r (farthestFrom (verticesOnce (storedRuns (now (table .entry)) (now (floats .entry)))) (bestOf best) p) ⌝ }
 {
     let b = against_occurring(best, p, floats, table, parts::POINTS, has.points);
     let b = against_occurring(b, p, floats, table, parts::LINES, has.lines);
@@ -177,9 +172,9 @@ const ONE_PLUS_SLACK: f64 = 1.0000000000000017763568394002504646778106689453125;
 
 // The skip: no vertex in the box is farther from p than the best pair is apart.
 fn no_farther(b: Best, p: Point, around: Aabb) -> bool
-    ensures { λ r. ⌜ r ≡ noFarther around (pairOf b) p ⌝ }
+    ensures { λ r. ⌜ r ≡ noFarther around (bestOf b) p ⌝ }
 {
-    let d = b.w.d;
+    let d = b.witness.d;
     if d < 0.0 {
         false
     } else {
@@ -192,7 +187,7 @@ fn visit(best: Best, p: Point, floats: &[f64], table: &[u32], has: Classes, arou
     requires { ⌜ Sound best ⌝ }
     requires { ⌜ Laid (now table) (now floats) ⌝ }
     requires { ⌜ Occurs has (now table) ⌝ }
-    ensures { λ r. ⌜ Keeps r (swept around (verticesOnce (storedRuns (now (table .entry)) (now (floats .entry)))) (pairOf best) (p ∷ [])) ⌝ }
+    ensures { λ r. ⌜ Keeps r (swept around (verticesOnce (storedRuns (now (table .entry)) (now (floats .entry)))) (bestOf best) (p ∷ [])) ⌝ }
 {
     if no_farther(best, p, around) {
         return best;
@@ -215,7 +210,7 @@ fn visit_run(
     requires { ⌜ floatsPerCoordinate * (first + count) ≤ length (now floats1) ⌝ }
     requires { ⌜ Laid (now table2) (now floats2) ⌝ }
     requires { ⌜ Occurs has (now table2) ⌝ }
-    ensures { λ r. ⌜ Keeps r (swept around (verticesOnce (storedRuns (now (table2 .entry)) (now (floats2 .entry)))) (pairOf best) (pointsFrom (now (floats1 .entry)) first count)) ⌝ }
+    ensures { λ r. ⌜ Keeps r (swept around (verticesOnce (storedRuns (now (table2 .entry)) (now (floats2 .entry)))) (bestOf best) (pointsFrom (now (floats1 .entry)) first count)) ⌝ }
 {
     let mut b = best;
     let mut at = first;
@@ -250,7 +245,7 @@ fn visit_class(
     requires { ⌜ Laid (now table1) (now floats1) ⌝ }
     requires { ⌜ Laid (now table2) (now floats2) ⌝ }
     requires { ⌜ Occurs has (now table2) ⌝ }
-    ensures { λ r. ⌜ Keeps r (swept around (verticesOnce (storedRuns (now (table2 .entry)) (now (floats2 .entry)))) (pairOf best) (classVertices class (storedRuns (now (table1 .entry)) (now (floats1 .entry))))) ⌝ }
+    ensures { λ r. ⌜ Keeps r (swept around (verticesOnce (storedRuns (now (table2 .entry)) (now (floats2 .entry)))) (bestOf best) (classVertices class (storedRuns (now (table1 .entry)) (now (floats1 .entry))))) ⌝ }
 {
     let runs = parts::run_count(table1);
     let mut b = best;
@@ -284,7 +279,7 @@ fn visit_occurring(
     requires { ⌜ any ≡ occurs class (now table1) ⌝ }
     requires { ⌜ Laid (now table2) (now floats2) ⌝ }
     requires { ⌜ Occurs has (now table2) ⌝ }
-    ensures { λ r. ⌜ Keeps r (swept around (verticesOnce (storedRuns (now (table2 .entry)) (now (floats2 .entry)))) (pairOf best) (classVertices class (storedRuns (now (table1 .entry)) (now (floats1 .entry))))) ⌝ }
+    ensures { λ r. ⌜ Keeps r (swept around (verticesOnce (storedRuns (now (table2 .entry)) (now (floats2 .entry)))) (bestOf best) (classVertices class (storedRuns (now (table1 .entry)) (now (floats1 .entry))))) ⌝ }
 {
     if any {
         return visit_class(best, floats1, table1, class, floats2, table2, has, around);
@@ -360,22 +355,6 @@ fn box_all(floats: &[f64], table: &[u32], has: Classes) -> Aabb
     box_occurring(lines, floats, table, parts::FACES, has.faces)
 }
 
-// No pair yet.
-fn none_yet() -> Best
-    ensures { λ r. ⌜ Keeps r none ⌝ }
-{
-    let w = Witness {
-        d: -1.0,
-        ax: 0.0,
-        ay: 0.0,
-        az: 0.0,
-        bx: 0.0,
-        by: 0.0,
-        bz: 0.0,
-    };
-    Best { sum: 0.0 / 0.0, w }
-}
-
 // All vertices of side 1 against side 2.
 fn visit_all(floats1: &[f64], table1: &[u32], floats2: &[f64], table2: &[u32]) -> Best
     requires { ⌜ Laid (now table1) (now floats1) ⌝ }
@@ -385,7 +364,7 @@ fn visit_all(floats1: &[f64], table1: &[u32], floats2: &[f64], table2: &[u32]) -
     let has1 = occurring(table1);
     let has2 = occurring(table2);
     let around = box_all(floats2, table2, has2);
-    let b = none_yet();
+    let b = extremes::none_yet();
     let b = visit_occurring(
         b,
         floats1,
@@ -427,11 +406,5 @@ pub fn farthest(floats1: &[f64], table1: &[u32], floats2: &[f64], table2: &[u32]
     requires { ⌜ Laid (now table2) (now floats2) ⌝ }
     ensures { λ r. ⌜ r ≡ answerOf (farthestOf (verticesOf (storedRuns (now (table1 .entry)) (now (floats1 .entry)))) (verticesOf (storedRuns (now (table2 .entry)) (now (floats2 .entry))))) ⌝ }
 {
-    let all = visit_all(floats1, table1, floats2, table2);
-    let w = all.w;
-    if w.d < 0.0 {
-        ExtremePair::Nothing
-    } else {
-        ExtremePair::Found(w)
-    }
+    extremes::answered(visit_all(floats1, table1, floats2, table2))
 }

@@ -7,7 +7,8 @@ use borrow.Author.Needs.{needs}
 use Rattle.parts.proofs.Turns.{RoomFrom, room-start, room-run, room-next}
 use Rattle.parts.specs.Stored.{storedRuns}
 use Rattle.extremes.specs.Sweeps.{skipping}
-use Rattle.farthest.specs.Inner.{pairOf, Sound, classVertices, verticesOnce, swept}
+use Rattle.extremes.specs.InnerBest.{bestOf, Sound}
+use Rattle.farthest.specs.Inner.{classVertices, verticesOnce, swept}
 use Rattle.farthest.proofs.Appended.{swept-append}
 use Rattle.farthest.proofs.ClassTurns.{classFrom, class-start, class-end, class-taken, class-passed}
 use Rattle.farthest.proofs.visit_class.Statement.{statement}
@@ -15,8 +16,8 @@ use Rattle.farthest.proofs.visit_class.Tie as tie
 
 abbrev Inv-loop : tie.InvT-loop
 Inv-loop floats1 table1 class floats2 table2 has around runs b₀ at₀ r₀ b at r =
-    (swept around (verticesOnce (storedRuns table2 floats2)) (pairOf b) (classFrom class table1 floats1 r at)
-    ≡ swept around (verticesOnce (storedRuns table2 floats2)) (pairOf b₀) (classVertices class (storedRuns table1 floats1)))
+    (swept around (verticesOnce (storedRuns table2 floats2)) (bestOf b) (classFrom class table1 floats1 r at)
+    ≡ swept around (verticesOnce (storedRuns table2 floats2)) (bestOf b₀) (classVertices class (storedRuns table1 floats1)))
     × Sound b
     × RoomFrom table1 floats1 r at
 
