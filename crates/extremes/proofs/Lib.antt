@@ -11,6 +11,7 @@ pub mod Taking
 pub mod BestSoFar
 pub mod EqualRoots
 pub mod Offered
+pub mod NanBest
 pub mod Repeats
 pub mod ClosestPoints
 pub mod PointsOnly

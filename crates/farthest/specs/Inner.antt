@@ -3,7 +3,7 @@ use Prim.Native.Nat.{ℕ}
 use mathlib.Core.Path.{_≡_}
 use mathlib.Core.Bool.{Bool, false, cond, _&&_, _||_}
 use mathlib.Core.List.{List, [], _∷_, _++_, foldl}
-use mathlib.Core.Option.{Option, none}
+use mathlib.Core.Option.{Option}
 use lib.Dec.{ltb, eqb}
 use lib.ListN.{length}
 use lib.Ieee.{nan}
@@ -65,6 +65,6 @@ boxWith box ps = foldl addPoint box ps
 unfoldable pub swept : Aabb → List Point → Option Witness → List Point → Option Witness
 swept box rs pair ls = skipping (noFarther box) (farthestFrom rs) pair ls
 
--- the whole sweep, each vertex once, the box of no point being the box of NaNs
-unfoldable pub sweptOnce : List (Run Point) → List (Run Point) → Option Witness
-sweptOnce ls rs = swept (boxWith emptyBox (verticesOnce rs)) (verticesOnce rs) none (verticesOnce ls)
+-- the whole sweep from a pair on, each vertex once, the box of no point being the box of NaNs
+unfoldable pub sweptOnce : Option Witness → List (Run Point) → List (Run Point) → Option Witness
+sweptOnce start ls rs = swept (boxWith emptyBox (verticesOnce rs)) (verticesOnce rs) start (verticesOnce ls)

@@ -1,4 +1,14 @@
-// The farthest sweep: plain loops over the runs of two workspaces, class by class.
+// The farthest sweep: the first longest pair of a vertex of side 1 and a vertex of side 2, by plain loops over the runs of two workspaces.
+//
+// 1. Side 2 is looked through once: which classes of runs occur, and the box of all its vertices (`Outline`).
+// 2. Each vertex of side 1 meets each vertex of side 2 (`visit_all`, from a given best on). Both go class by class, points, lines, faces, and in
+//    a class run by run. The first pair is taken, a later one only if strictly longer.
+// 3. Left out, since no answer changes by it (laws in proofs/):
+//    - a vertex of side 1 whose greatest squared gap to the box, times 1 + 2^-49 for what rounding may take, is at most the best's square
+//      (`no_farther`; Unskipped), and every vertex once the best is NaN, since nothing is longer than NaN (`visit`; Appended);
+//    - the root of a sum of squares that is no greater than the best's, whose root is no greater either (`against_run`; OfferedPair);
+//    - what the definition meets twice: each inner vertex of a line, the end of one segment and the start of the next (VerticesOnce);
+//    - classes that do not occur: their runs are not looked for again at every vertex (ClassTurns).
 use extremes::Best;
 use extremes::ExtremePair;
 use primitives::Aabb;
@@ -7,7 +17,6 @@ use primitives::Witness;
 ghost use mathlib.Core.Path.{_≡_};
 ghost use mathlib.Core.List.{[], _∷_};
 ghost use mathlib.Core.Bool.{false};
-ghost use mathlib.Core.Option.{none};
 ghost use Prim.Native.Nat.{_+_, _*_, _≤_, _<_};
 ghost use lib.Ieee.{le};
 ghost use lib.ListN.{length};
@@ -29,8 +38,14 @@ pub struct Classes {
     pub faces: bool,
 }
 
-// The better of the best pair and p with q, whose sum of squares s is greater than the best's, or one of them is NaN: first pair taken, later ones only if strictly longer.
-// Where the roots are equal the greater sum is kept: it spares the roots of all sums up to it.
+// What the sweep asks of side 2 at every vertex of side 1: its classes, and the box of all its vertices.
+pub struct Outline {
+    pub has: Classes,
+    pub bounds: Aabb,
+}
+
+// The better of the best pair and p with q, whose sum of squares s is not at most the best's: first pair taken, later ones only if strictly longer.
+// Where the roots are equal the greater sum is kept, so that no sum up to it takes a root again.
 fn offer(best: Best, p: Point, q: Point, s: f64) -> Best
     requires { ⌜ Sound best ⌝ }
     requires { ⌜ s ≡ squaredDistance p q ⌝ }
@@ -79,13 +94,13 @@ fn class_at(table: &[u32], r: usize) -> u32
     requires { ⌜ r < runCount (now table) ⌝ }
     ensures { λ k. ⌜ k ≡ classAt (now (table .entry)) r ⌝ }
 {
-    let kind = parts::kind_at(table, r);
-    if kind == 2 {
+    let class = parts::run_class(parts::kind_at(table, r));
+    if class == parts::LINES {
         if parts::count_at(table, r) < 2 {
             return 0;
         }
     }
-    parts::run_class(kind)
+    class
 }
 
 // p against the vertices of a class.
@@ -182,16 +197,22 @@ fn no_farther(b: Best, p: Point, around: Aabb) -> bool
     }
 }
 
-// One vertex of side 1 against side 2, unless it is skipped.
-fn visit(best: Best, p: Point, floats: &[f64], table: &[u32], has: Classes, around: Aabb) -> Best
+// One vertex of side 1 against side 2, unless it is skipped. Nothing is longer than NaN, so a NaN best stays.
+fn visit(best: Best, p: Point, floats: &[f64], table: &[u32], outline: Outline) -> Best
     requires { ⌜ Sound best ⌝ }
     requires { ⌜ Laid (now table) (now floats) ⌝ }
-    requires { ⌜ Occurs has (now table) ⌝ }
-    ensures { λ r. ⌜ Keeps r (swept around (verticesOnce (storedRuns (now (table .entry)) (now (floats .entry)))) (bestOf best) (p ∷ [])) ⌝ }
+    requires { ⌜ Occurs (outline .has) (now table) ⌝ }
+    ensures { λ r. ⌜ Keeps r (swept (outline .bounds) (verticesOnce (storedRuns (now (table .entry)) (now (floats .entry)))) (bestOf best) (p ∷ [])) ⌝ }
 {
-    if no_farther(best, p, around) {
+    let d = best.witness.d;
+    if d != d {
         return best;
     }
+    let bounds = outline.bounds;
+    if no_farther(best, p, bounds) {
+        return best;
+    }
+    let has = outline.has;
     against_all(best, p, floats, table, has)
 }
 
@@ -203,27 +224,19 @@ fn visit_run(
     count: usize,
     floats2: &[f64],
     table2: &[u32],
-    has: Classes,
-    around: Aabb,
+    outline: Outline,
 ) -> Best
     requires { ⌜ Sound best ⌝ }
     requires { ⌜ floatsPerCoordinate * (first + count) ≤ length (now floats1) ⌝ }
     requires { ⌜ Laid (now table2) (now floats2) ⌝ }
-    requires { ⌜ Occurs has (now table2) ⌝ }
-    ensures { λ r. ⌜ Keeps r (swept around (verticesOnce (storedRuns (now (table2 .entry)) (now (floats2 .entry)))) (bestOf best) (pointsFrom (now (floats1 .entry)) first count)) ⌝ }
+    requires { ⌜ Occurs (outline .has) (now table2) ⌝ }
+    ensures { λ r. ⌜ Keeps r (swept (outline .bounds) (verticesOnce (storedRuns (now (table2 .entry)) (now (floats2 .entry)))) (bestOf best) (pointsFrom (now (floats1 .entry)) first count)) ⌝ }
 {
     let mut b = best;
     let mut at = first;
     let mut left = count;
     while 0 < left {
-        b = visit(
-            b,
-            parts::point_at(floats1, at),
-            floats2,
-            table2,
-            has,
-            around,
-        );
+        b = visit(b, parts::point_at(floats1, at), floats2, table2, outline);
         at += 1;
         left -= 1;
     }
@@ -238,14 +251,13 @@ fn visit_class(
     class: u32,
     floats2: &[f64],
     table2: &[u32],
-    has: Classes,
-    around: Aabb,
+    outline: Outline,
 ) -> Best
     requires { ⌜ Sound best ⌝ }
     requires { ⌜ Laid (now table1) (now floats1) ⌝ }
     requires { ⌜ Laid (now table2) (now floats2) ⌝ }
-    requires { ⌜ Occurs has (now table2) ⌝ }
-    ensures { λ r. ⌜ Keeps r (swept around (verticesOnce (storedRuns (now (table2 .entry)) (now (floats2 .entry)))) (bestOf best) (classVertices class (storedRuns (now (table1 .entry)) (now (floats1 .entry))))) ⌝ }
+    requires { ⌜ Occurs (outline .has) (now table2) ⌝ }
+    ensures { λ r. ⌜ Keeps r (swept (outline .bounds) (verticesOnce (storedRuns (now (table2 .entry)) (now (floats2 .entry)))) (bestOf best) (classVertices class (storedRuns (now (table1 .entry)) (now (floats1 .entry))))) ⌝ }
 {
     let runs = parts::run_count(table1);
     let mut b = best;
@@ -254,7 +266,7 @@ fn visit_class(
     while r < runs {
         let count = parts::count_at(table1, r);
         if class_at(table1, r) == class {
-            b = visit_run(b, floats1, at, count, floats2, table2, has, around);
+            b = visit_run(b, floats1, at, count, floats2, table2, outline);
         }
         at += count;
         r += 1;
@@ -271,18 +283,17 @@ fn visit_occurring(
     any: bool,
     floats2: &[f64],
     table2: &[u32],
-    has: Classes,
-    around: Aabb,
+    outline: Outline,
 ) -> Best
     requires { ⌜ Sound best ⌝ }
     requires { ⌜ Laid (now table1) (now floats1) ⌝ }
     requires { ⌜ any ≡ occurs class (now table1) ⌝ }
     requires { ⌜ Laid (now table2) (now floats2) ⌝ }
-    requires { ⌜ Occurs has (now table2) ⌝ }
-    ensures { λ r. ⌜ Keeps r (swept around (verticesOnce (storedRuns (now (table2 .entry)) (now (floats2 .entry)))) (bestOf best) (classVertices class (storedRuns (now (table1 .entry)) (now (floats1 .entry))))) ⌝ }
+    requires { ⌜ Occurs (outline .has) (now table2) ⌝ }
+    ensures { λ r. ⌜ Keeps r (swept (outline .bounds) (verticesOnce (storedRuns (now (table2 .entry)) (now (floats2 .entry)))) (bestOf best) (classVertices class (storedRuns (now (table1 .entry)) (now (floats1 .entry))))) ⌝ }
 {
     if any {
-        return visit_class(best, floats1, table1, class, floats2, table2, has, around);
+        return visit_class(best, floats1, table1, class, floats2, table2, outline);
     }
     best
 }
@@ -355,26 +366,26 @@ fn box_all(floats: &[f64], table: &[u32], has: Classes) -> Aabb
     box_occurring(lines, floats, table, parts::FACES, has.faces)
 }
 
-// All vertices of side 1 against side 2.
-fn visit_all(floats1: &[f64], table1: &[u32], floats2: &[f64], table2: &[u32]) -> Best
+// All vertices of side 1 against side 2, from a best pair on.
+fn visit_all(best: Best, floats1: &[f64], table1: &[u32], floats2: &[f64], table2: &[u32]) -> Best
+    requires { ⌜ Sound best ⌝ }
     requires { ⌜ Laid (now table1) (now floats1) ⌝ }
     requires { ⌜ Laid (now table2) (now floats2) ⌝ }
-    ensures { λ r. ⌜ Keeps r (sweptOnce (storedRuns (now (table1 .entry)) (now (floats1 .entry))) (storedRuns (now (table2 .entry)) (now (floats2 .entry)))) ⌝ }
+    ensures { λ r. ⌜ Keeps r (sweptOnce (bestOf best) (storedRuns (now (table1 .entry)) (now (floats1 .entry))) (storedRuns (now (table2 .entry)) (now (floats2 .entry)))) ⌝ }
 {
     let has1 = occurring(table1);
     let has2 = occurring(table2);
-    let around = box_all(floats2, table2, has2);
-    let b = extremes::none_yet();
+    let bounds = box_all(floats2, table2, has2);
+    let outline = Outline { has: has2, bounds };
     let b = visit_occurring(
-        b,
+        best,
         floats1,
         table1,
         parts::POINTS,
         has1.points,
         floats2,
         table2,
-        has2,
-        around,
+        outline,
     );
     let b = visit_occurring(
         b,
@@ -384,8 +395,7 @@ fn visit_all(floats1: &[f64], table1: &[u32], floats2: &[f64], table2: &[u32]) -
         has1.lines,
         floats2,
         table2,
-        has2,
-        around,
+        outline,
     );
     visit_occurring(
         b,
@@ -395,8 +405,7 @@ fn visit_all(floats1: &[f64], table1: &[u32], floats2: &[f64], table2: &[u32]) -
         has1.faces,
         floats2,
         table2,
-        has2,
-        around,
+        outline,
     )
 }
 
@@ -406,5 +415,6 @@ pub fn farthest(floats1: &[f64], table1: &[u32], floats2: &[f64], table2: &[u32]
     requires { ⌜ Laid (now table2) (now floats2) ⌝ }
     ensures { λ r. ⌜ r ≡ answerOf (farthestOf (verticesOf (storedRuns (now (table1 .entry)) (now (floats1 .entry)))) (verticesOf (storedRuns (now (table2 .entry)) (now (floats2 .entry))))) ⌝ }
 {
-    extremes::answered(visit_all(floats1, table1, floats2, table2))
+    let none = extremes::none_yet();
+    extremes::answered(visit_all(none, floats1, table1, floats2, table2))
 }
