@@ -11,7 +11,7 @@ use Rattle.fields.specs.Fields.{u32At}
 use Rattle.coords.specs.declared.WkbHeader.{WkbHeader}
 use Rattle.coords.specs.declared.ParsedHeader.{ParsedHeader}
 use Rattle.coords.specs.declared.ParsedHeader.the-variants as header
-use Rattle.coords.specs.Walk.{Geometry, geometry, Content, point, line, rings, members, none, more, Parsed, ok, refused, mapParsed, stride, coordinateAt, coordinatesFrom, pointAt, coordinatesAt, lineAt, consParsed, andThen, times, listAt, ringsAt, membersAt, Class, pointClass, lineClass, polygonClass, collectionClass, unknownClass, classOf, contentOf, hasFlag, headerOf, headerOfType, headerAt, geometryFrom, walkOf}
+use Rattle.coords.specs.Walk.{Geometry, geometry, Content, point, line, rings, members, noMembers, oneMore, Parsed, ok, refused, mapParsed, stride, coordinateAt, coordinatesFrom, pointAt, coordinatesAt, lineAt, consParsed, andThen, times, listAt, ringsAt, membersAt, Class, pointClass, lineClass, polygonClass, collectionClass, unknownClass, classOf, contentOf, hasFlag, headerOf, headerOfType, headerAt, geometryFrom, walkOf}
 
 -- a header has at least five bytes
 unfoldable pub AfterFive : ℕ → ParsedHeader → Type 0
@@ -91,7 +91,7 @@ module _ (s : List ℕ) where
   content-within pointClass f each h = map-within point (h .body) (pointAt h s (h .body)) (needed (coordinateAt h s (h .body)) (h .body) (stride h) (ltb (length s) (h .body + stride h)) refl)
   content-within lineClass f each h = map-within line (h .body) (lineAt h s (h .body)) (line-within h (h .body))
   content-within polygonClass f each h = map-within rings (h .body) (ringsAt h s (h .body)) (list-within _∷_ [] (lineAt h s) (line-within h) (h .little) (h .body))
-  content-within collectionClass f each h = map-within members (h .body) (membersAt f (h .little) s (h .body)) (list-within more none f each (h .little) (h .body))
+  content-within collectionClass f each h = map-within members (h .body) (membersAt f (h .little) s (h .body)) (list-within oneMore noMembers f each (h .little) (h .body))
   content-within unknownClass f each h = tt
 
   -- a geometry is at least its header

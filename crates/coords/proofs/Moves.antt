@@ -13,7 +13,7 @@ use Rattle.coords.proofs.Laws.{wide}
 use Rattle.coords.specs.declared.WkbHeader.{WkbHeader}
 use Rattle.coords.specs.declared.ParsedHeader.{ParsedHeader}
 use Rattle.coords.specs.declared.ParsedHeader.the-variants as header
-use Rattle.coords.specs.Walk.{Coordinate, Geometry, geometry, Content, point, line, rings, members, none, more, Parsed, ok, refused, mapParsed, strideOf, stride, ordinateIf, mOffset, coordinateAt, coordinatesFrom, pointAt, coordinatesAt, lineAt, consParsed, andThen, times, listAt, ringsAt, membersAt, Class, pointClass, lineClass, polygonClass, collectionClass, unknownClass, classOf, contentOf, hasFlag, headerOf, headerOfType, headerAt, geometryFrom, walkOf}
+use Rattle.coords.specs.Walk.{Coordinate, Geometry, geometry, Content, point, line, rings, members, noMembers, oneMore, Parsed, ok, refused, mapParsed, strideOf, stride, ordinateIf, mOffset, coordinateAt, coordinatesFrom, pointAt, coordinatesAt, lineAt, consParsed, andThen, times, listAt, ringsAt, membersAt, Class, pointClass, lineClass, polygonClass, collectionClass, unknownClass, classOf, contentOf, hasFlag, headerOf, headerOfType, headerAt, geometryFrom, walkOf}
 
 -- n bytes at a of s stand at a′ of s′ too
 module _ (s s′ : List ℕ) (a a′ n : ℕ) (same : (i : ℕ) → i < n → getD s (a + i) 0 ≡ getD s′ (a′ + i) 0) (room : a′ + n ≤ length s′) where
@@ -155,7 +155,7 @@ module _ (s s′ : List ℕ) (a a′ n : ℕ) (same : (i : ℕ) → i < n → ge
   content-carries polygonClass f f′ each h g =
       map-carries rings (h .body) (ringsAt h s (h .body)) (ringsAt (moved h) s′ (there (h .body))) (list-carries _∷_ [] (lineAt h s) (lineAt (moved h) s′) (line-carries h) (h .little) (h .body) g)
   content-carries collectionClass f f′ each h g =
-      map-carries members (h .body) (membersAt f (h .little) s (h .body)) (membersAt f′ (h .little) s′ (there (h .body))) (list-carries more none f f′ each (h .little) (h .body) g)
+      map-carries members (h .body) (membersAt f (h .little) s (h .body)) (membersAt f′ (h .little) s′ (there (h .body))) (list-carries oneMore noMembers f f′ each (h .little) (h .body) g)
   content-carries unknownClass f f′ each h g = tt
 
   HeaderCarries : ℕ → ParsedHeader → ParsedHeader → Type 0

@@ -32,8 +32,8 @@ mutual
 
   -- geometries in a row
   pub data Members : Type 0 where
-    none : Members
-    more : Geometry → Members → Members
+    noMembers : Members
+    oneMore : Geometry → Members → Members
 
 -- what was read and the position after it, or the refusal's number
 pub data Parsed (A : Type 0) : Type 0 where
@@ -173,7 +173,7 @@ ringsAt h s at = listAt _∷_ [] (lineAt h s) (h .little) s at
 
 -- a count of geometries, each member read by f
 abbrev pub membersAt : (ℕ → Parsed Geometry) → Bool → List ℕ → ℕ → Parsed Members
-membersAt f little s at = listAt more none f little s at
+membersAt f little s at = listAt oneMore noMembers f little s at
 
 -- ---- geometries
 
