@@ -2,3 +2,4 @@ pub mod Order
 pub mod Outcome
 pub mod LineReadBack
 pub mod PointReadBack
+pub mod Ignored
