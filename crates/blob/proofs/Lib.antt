@@ -1,3 +1,4 @@
+pub mod Steps
 pub mod Order
 pub mod Outcome
 pub mod LineReadBack
