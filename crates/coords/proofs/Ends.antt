@@ -12,7 +12,8 @@ use Rattle.coords.proofs.Laws.{wide}
 use Rattle.coords.specs.declared.WkbHeader.{WkbHeader}
 use Rattle.coords.specs.declared.ParsedHeader.{ParsedHeader}
 use Rattle.coords.specs.declared.ParsedHeader.the-variants as header
-use Rattle.coords.specs.Walk.{Geometry, geometry, Content, point, line, rings, members, noMembers, oneMore, Parsed, ok, refused, mapParsed, stride, coordinateAt, coordinatesFrom, pointAt, coordinatesAt, lineAt, consParsed, andThen, times, listAt, ringsAt, membersAt, Class, pointClass, lineClass, polygonClass, collectionClass, unknownClass, classOf, contentOf, hasFlag, headerOf, headerOfType, headerAt, geometryFrom, walkOf}
+use Rattle.fields.specs.TypeCode.{hasFlag, sridFlag}
+use Rattle.coords.specs.Walk.{Geometry, geometry, Content, point, line, rings, members, noMembers, oneMore, Parsed, ok, refused, mapParsed, stride, coordinateAt, coordinatesFrom, pointAt, coordinatesAt, lineAt, consParsed, andThen, times, listAt, ringsAt, membersAt, Class, pointClass, lineClass, polygonClass, collectionClass, unknownClass, classOf, contentOf, headerOf, headerOfType, headerAt, geometryFrom, walkOf}
 
 -- a header has at least five bytes
 unfoldable pub AfterFive : ℕ → ParsedHeader → Type 0
@@ -32,7 +33,7 @@ unfolding headerAt headerOfType
 header-after s p =
     let little = eqb (getD s p 0) 1 in
     let code = u32At little s (p + 1) in
-    after-tests (ltb (length s) (p + 5)) (ltb 1 (getD s p 0)) (hasFlag 0x20000000 code) (ltb (length s) (p + 9)) p (headerOf little code (p + 9)) (headerOf little code (p + 5)) (omega arith) (omega arith)
+    after-tests (ltb (length s) (p + 5)) (ltb 1 (getD s p 0)) (hasFlag sridFlag code) (ltb (length s) (p + 9)) p (headerOf little code (p + 9)) (headerOf little code (p + 5)) (omega arith) (omega arith)
 
 module _ (s : List ℕ) where
   -- what was read from p on ends in the blob

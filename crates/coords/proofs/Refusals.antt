@@ -14,7 +14,8 @@ use Rattle.fields.specs.Fields.{u32At}
 use Rattle.coords.specs.declared.WkbHeader.{WkbHeader}
 use Rattle.coords.specs.declared.ParsedHeader.{ParsedHeader}
 use Rattle.coords.specs.declared.ParsedHeader.the-variants as header
-use Rattle.coords.specs.Walk.{Geometry, geometry, point, line, rings, members, noMembers, oneMore, Parsed, ok, refused, mapParsed, consParsed, andThen, times, listAt, stride, coordinateAt, coordinatesFrom, pointAt, coordinatesAt, lineAt, ringsAt, membersAt, Class, pointClass, lineClass, polygonClass, collectionClass, unknownClass, classOf, contentOf, hasFlag, headerOf, headerOfType, headerAt, geometryFrom, walkOf, allLevels}
+use Rattle.fields.specs.TypeCode.{hasFlag, sridFlag}
+use Rattle.coords.specs.Walk.{Geometry, geometry, point, line, rings, members, noMembers, oneMore, Parsed, ok, refused, mapParsed, consParsed, andThen, times, listAt, stride, coordinateAt, coordinatesFrom, pointAt, coordinatesAt, lineAt, ringsAt, membersAt, Class, pointClass, lineClass, polygonClass, collectionClass, unknownClass, classOf, contentOf, headerOf, headerOfType, headerAt, geometryFrom, walkOf, allLevels}
 use Rattle.coords.specs.Refusals.{refusedWith, isAccepted, walkChecks}
 
 -- what holds of the number of every refusal
@@ -87,7 +88,7 @@ module _ (P : ℕ → Type 0) (nine : P 9) where
   numbered-header ten s at =
       let little = eqb (getD s at 0) 1 in
       let code = u32At little s (at + 1) in
-      header-tests ten (ltb (length s) (at + 5)) (ltb 1 (getD s at 0)) (hasFlag 0x20000000 code) (ltb (length s) (at + 9)) (headerOf little code (at + 9)) (headerOf little code (at + 5))
+      header-tests ten (ltb (length s) (at + 5)) (ltb 1 (getD s at 0)) (hasFlag sridFlag code) (ltb (length s) (at + 9)) (headerOf little code (at + 9)) (headerOf little code (at + 5))
 
 -- a refusal of the walk is one of 9 to 12
 abbrev pub WalkNumber : ℕ → Type 0
