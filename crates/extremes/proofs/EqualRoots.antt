@@ -12,7 +12,8 @@ use lib.Ieee.{Float, nan, inf, fin, binary64, up, down, lt, le, eq, fits, ofBits
 use lib.Ieee.Bits.{ofBits-toBits}
 use lib.Ieee.Fits.{up-pos, down-pos}
 use lib.Ieee.Positive.{positive}
-use Rattle.ieee754.specs.Root.{unitsOf, unitsOfPattern, rootPattern, rootOf}
+use Rattle.ieee754.specs.Root.{unitsOf, rootOf}
+use Rattle.ieee754.specs.InnerRoot.{unitsOfPattern}
 use Rattle.ieee754.proofs.FloatRanks.{rankOf, eq-by-rank}
 use Rattle.ieee754.proofs.NotBelowZero.{both-left}
 use Rattle.ieee754.proofs.PatternUnits.{units-step, units-keep-order}
