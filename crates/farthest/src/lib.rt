@@ -8,7 +8,7 @@
 //      (`no_farther`; Unskipped), and every vertex once the best is NaN, since nothing is longer than NaN (`visit`; Appended);
 //    - the root of a sum of squares that is no greater than the best's, whose root is no greater either (`against_run`; OfferedPair);
 //    - what the definition meets twice: each inner vertex of a line, the end of one segment and the start of the next (VerticesOnce);
-//    - classes that do not occur: their runs are not looked for again at every vertex (ClassTurns).
+//    - classes that do not occur (`against_class`, `visit_class`, `box_class`; ClassTurns).
 use extremes::Best;
 use extremes::ExtremePair;
 use primitives::Aabb;
@@ -103,12 +103,16 @@ fn class_at(table: &[u32], r: usize) -> u32
     class
 }
 
-// p against the vertices of a class.
-fn against_class(best: Best, p: Point, floats: &[f64], table: &[u32], class: u32) -> Best
+// p against the vertices of a class. A class that does not occur is not walked.
+fn against_class(best: Best, p: Point, floats: &[f64], table: &[u32], class: u32, any: bool) -> Best
     requires { ⌜ Sound best ⌝ }
     requires { ⌜ Laid (now table) (now floats) ⌝ }
+    requires { ⌜ any ≡ occurs class (now table) ⌝ }
     ensures { λ r. ⌜ Keeps r (farthestFrom (classVertices class (storedRuns (now (table .entry)) (now (floats .entry)))) (bestOf best) p) ⌝ }
 {
+    if !any {
+        return best;
+    }
     let runs = parts::run_count(table);
     let mut b = best;
     let mut at = 0;
@@ -150,26 +154,6 @@ fn occurring(table: &[u32]) -> Classes
     }
 }
 
-// The same, where it is known whether the class occurs: if not, it is not walked.
-fn against_occurring(
-    best: Best,
-    p: Point,
-    floats: &[f64],
-    table: &[u32],
-    class: u32,
-    any: bool,
-) -> Best
-    requires { ⌜ Sound best ⌝ }
-    requires { ⌜ Laid (now table) (now floats) ⌝ }
-    requires { ⌜ any ≡ occurs class (now table) ⌝ }
-    ensures { λ r. ⌜ Keeps r (farthestFrom (classVertices class (storedRuns (now (table .entry)) (now (floats .entry)))) (bestOf best) p) ⌝ }
-{
-    if any {
-        return against_class(best, p, floats, table, class);
-    }
-    best
-}
-
 // p against all vertices.
 fn against_all(best: Best, p: Point, floats: &[f64], table: &[u32], has: Classes) -> Best
     requires { ⌜ Sound best ⌝ }
@@ -177,9 +161,9 @@ fn against_all(best: Best, p: Point, floats: &[f64], table: &[u32], has: Classes
     requires { ⌜ Occurs has (now table) ⌝ }
     ensures { λ r. ⌜ Keeps r (farthestFrom (verticesOnce (storedRuns (now (table .entry)) (now (floats .entry)))) (bestOf best) p) ⌝ }
 {
-    let b = against_occurring(best, p, floats, table, parts::POINTS, has.points);
-    let b = against_occurring(b, p, floats, table, parts::LINES, has.lines);
-    against_occurring(b, p, floats, table, parts::FACES, has.faces)
+    let b = against_class(best, p, floats, table, parts::POINTS, has.points);
+    let b = against_class(b, p, floats, table, parts::LINES, has.lines);
+    against_class(b, p, floats, table, parts::FACES, has.faces)
 }
 
 // 1 + 2^-49
@@ -249,16 +233,21 @@ fn visit_class(
     floats1: &[f64],
     table1: &[u32],
     class: u32,
+    any: bool,
     floats2: &[f64],
     table2: &[u32],
     outline: Outline,
 ) -> Best
     requires { ⌜ Sound best ⌝ }
     requires { ⌜ Laid (now table1) (now floats1) ⌝ }
+    requires { ⌜ any ≡ occurs class (now table1) ⌝ }
     requires { ⌜ Laid (now table2) (now floats2) ⌝ }
     requires { ⌜ Occurs (outline .has) (now table2) ⌝ }
     ensures { λ r. ⌜ Keeps r (swept (outline .bounds) (verticesOnce (storedRuns (now (table2 .entry)) (now (floats2 .entry)))) (bestOf best) (classVertices class (storedRuns (now (table1 .entry)) (now (floats1 .entry))))) ⌝ }
 {
+    if !any {
+        return best;
+    }
     let runs = parts::run_count(table1);
     let mut b = best;
     let mut at = 0;
@@ -272,30 +261,6 @@ fn visit_class(
         r += 1;
     }
     b
-}
-
-// The same, where it is known whether the class occurs: if not, it is not walked.
-fn visit_occurring(
-    best: Best,
-    floats1: &[f64],
-    table1: &[u32],
-    class: u32,
-    any: bool,
-    floats2: &[f64],
-    table2: &[u32],
-    outline: Outline,
-) -> Best
-    requires { ⌜ Sound best ⌝ }
-    requires { ⌜ Laid (now table1) (now floats1) ⌝ }
-    requires { ⌜ any ≡ occurs class (now table1) ⌝ }
-    requires { ⌜ Laid (now table2) (now floats2) ⌝ }
-    requires { ⌜ Occurs (outline .has) (now table2) ⌝ }
-    ensures { λ r. ⌜ Keeps r (swept (outline .bounds) (verticesOnce (storedRuns (now (table2 .entry)) (now (floats2 .entry)))) (bestOf best) (classVertices class (storedRuns (now (table1 .entry)) (now (floats1 .entry))))) ⌝ }
-{
-    if any {
-        return visit_class(best, floats1, table1, class, floats2, table2, outline);
-    }
-    best
 }
 
 // A box with the points of a run added.
@@ -315,10 +280,14 @@ fn box_run(start: Aabb, floats: &[f64], first: usize, count: usize) -> Aabb
 }
 
 // A box with the vertices of a class added.
-fn box_class(start: Aabb, floats: &[f64], table: &[u32], class: u32) -> Aabb
+fn box_class(start: Aabb, floats: &[f64], table: &[u32], class: u32, any: bool) -> Aabb
     requires { ⌜ Laid (now table) (now floats) ⌝ }
+    requires { ⌜ any ≡ occurs class (now table) ⌝ }
     ensures { λ r. ⌜ r ≡ boxWith start (classVertices class (storedRuns (now (table .entry)) (now (floats .entry)))) ⌝ }
 {
+    if !any {
+        return start;
+    }
     let runs = parts::run_count(table);
     let mut b = start;
     let mut at = 0;
@@ -332,18 +301,6 @@ fn box_class(start: Aabb, floats: &[f64], table: &[u32], class: u32) -> Aabb
         r += 1;
     }
     b
-}
-
-// The same, where it is known whether the class occurs: if not, it is not walked.
-fn box_occurring(start: Aabb, floats: &[f64], table: &[u32], class: u32, any: bool) -> Aabb
-    requires { ⌜ Laid (now table) (now floats) ⌝ }
-    requires { ⌜ any ≡ occurs class (now table) ⌝ }
-    ensures { λ r. ⌜ r ≡ boxWith start (classVertices class (storedRuns (now (table .entry)) (now (floats .entry)))) ⌝ }
-{
-    if any {
-        return box_class(start, floats, table, class);
-    }
-    start
 }
 
 // The box of all vertices; of none, the box of NaNs, which every point replaces.
@@ -361,9 +318,9 @@ fn box_all(floats: &[f64], table: &[u32], has: Classes) -> Aabb
         hi_y: n,
         hi_z: n,
     };
-    let points = box_occurring(b, floats, table, parts::POINTS, has.points);
-    let lines = box_occurring(points, floats, table, parts::LINES, has.lines);
-    box_occurring(lines, floats, table, parts::FACES, has.faces)
+    let points = box_class(b, floats, table, parts::POINTS, has.points);
+    let lines = box_class(points, floats, table, parts::LINES, has.lines);
+    box_class(lines, floats, table, parts::FACES, has.faces)
 }
 
 // All vertices of side 1 against side 2, from a best pair on.
@@ -377,7 +334,7 @@ fn visit_all(best: Best, floats1: &[f64], table1: &[u32], floats2: &[f64], table
     let has2 = occurring(table2);
     let bounds = box_all(floats2, table2, has2);
     let outline = Outline { has: has2, bounds };
-    let b = visit_occurring(
+    let b = visit_class(
         best,
         floats1,
         table1,
@@ -387,7 +344,7 @@ fn visit_all(best: Best, floats1: &[f64], table1: &[u32], floats2: &[f64], table
         table2,
         outline,
     );
-    let b = visit_occurring(
+    let b = visit_class(
         b,
         floats1,
         table1,
@@ -397,7 +354,7 @@ fn visit_all(best: Best, floats1: &[f64], table1: &[u32], floats2: &[f64], table
         table2,
         outline,
     );
-    visit_occurring(
+    visit_class(
         b,
         floats1,
         table1,

@@ -5,24 +5,24 @@ use Rattle.farthest.proofs.Appended.{from-classes}
 use Rattle.farthest.proofs.against_all.Statement.{statement}
 use Rattle.farthest.proofs.against_all.Tie as tie
 
-against-occurring-requires : tie.Need-against-occurring-requires
-against-occurring-requires c κs = search needs
+against-class-requires : tie.Need-against-class-requires
+against-class-requires c κs = search needs
 
-against-occurring-requires-2 : tie.Need-against-occurring-requires-2
-against-occurring-requires-2 c κs = search needs
+against-class-requires-2 : tie.Need-against-class-requires-2
+against-class-requires-2 c κs = search needs
 
-against-occurring-requires-3 : tie.Need-against-occurring-requires-3
-against-occurring-requires-3 c κs = search needs
+against-class-requires-3 : tie.Need-against-class-requires-3
+against-class-requires-3 c κs = search needs
 
 returns : tie.Need-returns
 unfolding verticesOnce
-returns c = from-classes _ _ _ _ _ _ _ _ (c .before .before .against-occurring .ensures) (c .before .against-occurring2 .ensures) (c .against-occurring3 .ensures)
+returns c = from-classes _ _ _ _ _ _ _ _ (c .before .before .against-class .ensures) (c .before .against-class2 .ensures) (c .against-class3 .ensures)
 
 pub against-all-spec : {M : Type 1} → statement M
 against-all-spec =
     tie.close
     (tie.spec
-    against-occurring-requires
-    against-occurring-requires-2
-    against-occurring-requires-3
+    against-class-requires
+    against-class-requires-2
+    against-class-requires-3
     returns)

@@ -4,30 +4,37 @@ use mathlib.Core.Logic.{⊎-elim}
 use Prim.Native.Nat.{_-_}
 use native.Mathlib.Omega.{arith}
 use borrow.Author.Needs.{needs}
+use borrow.Author.Tests.{not-true}
 use Rattle.parts.proofs.Turns.{RoomFrom, room-start, room-run, room-next}
 use Rattle.parts.specs.Stored.{storedRuns}
 use Rattle.extremes.specs.Farthest.{farthestFrom}
 use Rattle.extremes.specs.InnerBest.{bestOf, Sound}
 use Rattle.farthest.specs.Inner.{classVertices}
 use Rattle.farthest.proofs.Appended.{from-append}
-use Rattle.farthest.proofs.ClassTurns.{classFrom, class-start, class-end, class-taken, class-passed}
+use Rattle.farthest.proofs.ClassTurns.{classFrom, class-start, class-end, class-taken, class-passed, absent}
 use Rattle.farthest.proofs.against_class.Statement.{statement}
 use Rattle.farthest.proofs.against_class.Tie as tie
 
 abbrev Inv-loop : tie.InvT-loop
-Inv-loop p floats table class runs b₀ at₀ r₀ b at r =
+Inv-loop p floats table class any runs b₀ at₀ r₀ b at r =
     (farthestFrom (classFrom class table floats r at) (bestOf b) p ≡ farthestFrom (classVertices class (storedRuns table floats)) (bestOf b₀) p)
     × Sound b
     × RoomFrom table floats r at
 
 abbrev μ-loop : tie.MeasureT-loop
-μ-loop p floats table class runs b₀ at₀ r₀ b at r = runs - r
+μ-loop p floats table class any runs b₀ at₀ r₀ b at r = runs - r
+
+returns : tie.Need-returns Inv-loop μ-loop
+unfolding farthestFrom
+returns c =
+    let start = c .before .before .before in
+    record { same = rw (absent _ _ (start .args .floats .now) (sym (start .pre .1 .1) ∙ not-true _ (c .if1 .taken))); sound = start .pre .0 }
 
 run-count-requires : tie.Need-run-count-requires Inv-loop μ-loop
 run-count-requires c κs = search needs
 
 loop-holds : tie.Need-loop-holds Inv-loop μ-loop
-loop-holds c = (rw class-start, c .before .before .before .pre .0, room-start _ _ (c .before .before .before .pre .1))
+loop-holds c = (rw class-start, c .before .before .before .before .pre .0, room-start _ _ (c .before .before .before .before .pre .1 .0))
 
 count-at-requires : tie.Need-count-at-requires Inv-loop μ-loop
 count-at-requires c κs = omega arith
@@ -37,13 +44,13 @@ class-at-requires c κs = omega arith
 
 against-run-requires : tie.Need-against-run-requires Inv-loop μ-loop
 against-run-requires c κs =
-    let start = c .before .before .before .before .before .before .before .before in
+    let start = c .before .before .before .before .before .before .before .before .before in
     let turn = c .before .before .before .before in
     (turn .loop .inv .1, room-run (start .args .table .now) (start .args .floats .now) (turn .loop .r) (turn .loop .at) _ (rw (turn .before .run-count .ensures) at (c .before .before .before .loop-test .taken)) (c .before .before .count-at .ensures) (turn .loop .inv .2))
 
 add-at : tie.Need-add-at Inv-loop μ-loop
 add-at c =
-    let start = c .before .before .before .before .before .before .before .before in
+    let start = c .before .before .before .before .before .before .before .before .before in
     let turn = c .before .before .before .before in
     omega (arith, room-run (start .args .table .now) (start .args .floats .now) (turn .loop .r) (turn .loop .at) _ (rw (turn .before .run-count .ensures) at (c .before .before .before .loop-test .taken)) (c .before .before .count-at .ensures) (turn .loop .inv .2))
 
@@ -55,7 +62,7 @@ loop-less c = omega arith
 
 loop-again : tie.Need-loop-again Inv-loop μ-loop
 loop-again c =
-    let start = c .before .before .before .before .before .before .before .before in
+    let start = c .before .before .before .before .before .before .before .before .before in
     let turn = c .before .before .before .before in
     let room = room-next (start .args .table .now) (start .args .floats .now) (turn .loop .r) (turn .loop .at) _ (rw (turn .before .run-count .ensures) at (c .before .before .before .loop-test .taken)) (c .before .before .count-at .ensures) (turn .loop .inv .2) in
     ⊎-elim
@@ -73,11 +80,11 @@ loop-again c =
       turn .loop .inv .1,
       room,
     ))
-    (c .if1 .came)
+    (c .if2 .came)
 
-returns : tie.Need-returns Inv-loop μ-loop
+returns-2 : tie.Need-returns-2 Inv-loop μ-loop
 unfolding farthestFrom
-returns c =
+returns-2 c =
     record {
       same = rw (class-end _ _ _ _ _ _ (c .before .before .run-count .ensures) (c .loop-test .left)) at (c .before .loop .inv .0);
       sound = c .before .loop .inv .1;
@@ -89,6 +96,7 @@ against-class-spec =
     (tie.spec
     Inv-loop
     μ-loop
+    returns
     run-count-requires
     loop-holds
     count-at-requires
@@ -98,4 +106,4 @@ against-class-spec =
     add-r
     loop-less
     loop-again
-    returns)
+    returns-2)

@@ -4,25 +4,32 @@ use mathlib.Core.Logic.{⊎-elim}
 use Prim.Native.Nat.{_-_}
 use native.Mathlib.Omega.{arith}
 use borrow.Author.Needs.{needs}
+use borrow.Author.Tests.{not-true}
 use Rattle.parts.proofs.Turns.{RoomFrom, room-start, room-run, room-next}
 use Rattle.parts.specs.Stored.{storedRuns}
 use Rattle.farthest.specs.Inner.{classVertices, boxWith}
 use Rattle.farthest.proofs.Appended.{box-append}
-use Rattle.farthest.proofs.ClassTurns.{classFrom, class-start, class-end, class-taken, class-passed}
+use Rattle.farthest.proofs.ClassTurns.{classFrom, class-start, class-end, class-taken, class-passed, absent}
 use Rattle.farthest.proofs.box_class.Statement.{statement}
 use Rattle.farthest.proofs.box_class.Tie as tie
 
 abbrev Inv-loop : tie.InvT-loop
-Inv-loop floats table class runs b₀ at₀ r₀ b at r = (boxWith b (classFrom class table floats r at) ≡ boxWith b₀ (classVertices class (storedRuns table floats))) × RoomFrom table floats r at
+Inv-loop floats table class any runs b₀ at₀ r₀ b at r = (boxWith b (classFrom class table floats r at) ≡ boxWith b₀ (classVertices class (storedRuns table floats))) × RoomFrom table floats r at
 
 abbrev μ-loop : tie.MeasureT-loop
-μ-loop floats table class runs b₀ at₀ r₀ b at r = runs - r
+μ-loop floats table class any runs b₀ at₀ r₀ b at r = runs - r
+
+returns : tie.Need-returns Inv-loop μ-loop
+unfolding boxWith
+returns c =
+    let start = c .before .before .before in
+    rw (absent _ _ (start .args .floats .now) (sym (start .pre .1) ∙ not-true _ (c .if1 .taken)))
 
 run-count-requires : tie.Need-run-count-requires Inv-loop μ-loop
 run-count-requires c κs = search needs
 
 loop-holds : tie.Need-loop-holds Inv-loop μ-loop
-loop-holds c = (rw class-start, room-start _ _ (c .before .before .before .pre))
+loop-holds c = (rw class-start, room-start _ _ (c .before .before .before .before .pre .0))
 
 count-at-requires : tie.Need-count-at-requires Inv-loop μ-loop
 count-at-requires c κs = omega arith
@@ -32,13 +39,13 @@ class-at-requires c κs = omega arith
 
 box-run-requires : tie.Need-box-run-requires Inv-loop μ-loop
 box-run-requires c κs =
-    let start = c .before .before .before .before .before .before .before .before in
+    let start = c .before .before .before .before .before .before .before .before .before in
     let turn = c .before .before .before .before in
     room-run (start .args .table .now) (start .args .floats .now) (turn .loop .r) (turn .loop .at) _ (rw (turn .before .run-count .ensures) at (c .before .before .before .loop-test .taken)) (c .before .before .count-at .ensures) (turn .loop .inv .1)
 
 add-at : tie.Need-add-at Inv-loop μ-loop
 add-at c =
-    let start = c .before .before .before .before .before .before .before .before in
+    let start = c .before .before .before .before .before .before .before .before .before in
     let turn = c .before .before .before .before in
     omega (arith, room-run (start .args .table .now) (start .args .floats .now) (turn .loop .r) (turn .loop .at) _ (rw (turn .before .run-count .ensures) at (c .before .before .before .loop-test .taken)) (c .before .before .count-at .ensures) (turn .loop .inv .1))
 
@@ -50,7 +57,7 @@ loop-less c = omega arith
 
 loop-again : tie.Need-loop-again Inv-loop μ-loop
 loop-again c =
-    let start = c .before .before .before .before .before .before .before .before in
+    let start = c .before .before .before .before .before .before .before .before .before in
     let turn = c .before .before .before .before in (
       ⊎-elim
           (λ w. rw (w .2, w .1 .ensures) (sym (class-taken (start .args .table .now) (start .args .floats .now) (turn .loop .r) (turn .loop .at) _ _ _
@@ -59,13 +66,13 @@ loop-again c =
           (λ w. rw (w .1) (sym (class-passed (start .args .table .now) (start .args .floats .now) (turn .loop .r) (turn .loop .at) _ _ _
           (c .before .before .count-at .ensures) (c .before .class-at .ensures) (turn .before .run-count .ensures) (c .before .before .before .loop-test .taken)
           (boxWith) (box-append) _ _ (w .0 .left)) ∙ turn .loop .inv .0))
-          (c .if1 .came),
+          (c .if2 .came),
       room-next (start .args .table .now) (start .args .floats .now) (turn .loop .r) (turn .loop .at) _ (rw (turn .before .run-count .ensures) at (c .before .before .before .loop-test .taken)) (c .before .before .count-at .ensures) (turn .loop .inv .1),
     )
 
-returns : tie.Need-returns Inv-loop μ-loop
+returns-2 : tie.Need-returns-2 Inv-loop μ-loop
 unfolding boxWith
-returns c = rw (class-end _ _ _ _ _ _ (c .before .before .run-count .ensures) (c .loop-test .left)) at (c .before .loop .inv .0)
+returns-2 c = rw (class-end _ _ _ _ _ _ (c .before .before .run-count .ensures) (c .loop-test .left)) at (c .before .loop .inv .0)
 
 pub box-class-spec : {M : Type 1} → statement M
 box-class-spec =
@@ -73,6 +80,7 @@ box-class-spec =
     (tie.spec
     Inv-loop
     μ-loop
+    returns
     run-count-requires
     loop-holds
     count-at-requires
@@ -82,4 +90,4 @@ box-class-spec =
     add-r
     loop-less
     loop-again
-    returns)
+    returns-2)

@@ -14,29 +14,29 @@ occurring-requires-2 c κs = search needs
 box-all-requires : tie.Need-box-all-requires
 box-all-requires c κs = search needs
 
-visit-occurring-requires : tie.Need-visit-occurring-requires
-visit-occurring-requires c κs =
+visit-class-requires : tie.Need-visit-class-requires
+visit-class-requires c κs =
     let found = c .before in
     let start = found .before .before .before .before .before .before in
     (start .pre .0, (start .pre .1 .0, (found .before .occurring .ensures .points, (start .pre .1 .1, found .occurring2 .ensures))))
 
-visit-occurring-requires-2 : tie.Need-visit-occurring-requires-2
-visit-occurring-requires-2 c κs =
+visit-class-requires-2 : tie.Need-visit-class-requires-2
+visit-class-requires-2 c κs =
     let found = c .before .before in
     let start = found .before .before .before .before .before .before in
-    (c .visit-occurring .ensures .sound, (start .pre .1 .0, (found .before .occurring .ensures .lines, (start .pre .1 .1, found .occurring2 .ensures))))
+    (c .visit-class .ensures .sound, (start .pre .1 .0, (found .before .occurring .ensures .lines, (start .pre .1 .1, found .occurring2 .ensures))))
 
-visit-occurring-requires-3 : tie.Need-visit-occurring-requires-3
-visit-occurring-requires-3 c κs =
+visit-class-requires-3 : tie.Need-visit-class-requires-3
+visit-class-requires-3 c κs =
     let found = c .before .before .before in
     let start = found .before .before .before .before .before .before in
-    (c .visit-occurring2 .ensures .sound, (start .pre .1 .0, (found .before .occurring .ensures .faces, (start .pre .1 .1, found .occurring2 .ensures))))
+    (c .visit-class2 .ensures .sound, (start .pre .1 .0, (found .before .occurring .ensures .faces, (start .pre .1 .1, found .occurring2 .ensures))))
 
 returns : tie.Need-returns
 unfolding sweptOnce verticesOnce
 returns c =
     rw (← c .before .before .before .box-all .ensures)
-    (swept-classes _ _ _ _ _ _ _ _ _ (c .before .before .visit-occurring .ensures) (c .before .visit-occurring2 .ensures) (c .visit-occurring3 .ensures))
+    (swept-classes _ _ _ _ _ _ _ _ _ (c .before .before .visit-class .ensures) (c .before .visit-class2 .ensures) (c .visit-class3 .ensures))
 
 pub visit-all-spec : {M : Type 1} → statement M
 visit-all-spec =
@@ -45,7 +45,7 @@ visit-all-spec =
     occurring-requires
     occurring-requires-2
     box-all-requires
-    visit-occurring-requires
-    visit-occurring-requires-2
-    visit-occurring-requires-3
+    visit-class-requires
+    visit-class-requires-2
+    visit-class-requires-3
     returns)
