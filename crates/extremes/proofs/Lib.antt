@@ -6,8 +6,10 @@ pub mod Senses
 pub mod Distances
 pub mod FirstExtreme
 pub mod BoxOfAll
+pub mod EitherWay
 pub mod BoxSkips
 pub mod Taking
+pub mod EqualRoots
 pub mod BestSoFar
 pub mod Repeats
 pub mod ClosestPoints
