@@ -12,7 +12,8 @@ use Rattle.extremes.proofs.Lists.{each-weaken}
 use Rattle.extremes.proofs.Taking.{unbeaten-row}
 use Rattle.items.specs.Items.{Item, boxOfItem}
 use Rattle.items.specs.Candidates.{candidatesOf}
-use Rattle.items.proofs.NotBelowZero.{Distant, candidates-not-below}
+use Rattle.measures.proofs.NotBelowZero.{Distant}
+use Rattle.items.proofs.NotBelowZero.{candidates-not-below}
 use Rattle.items.specs.Closest.{withItem, withEach, sweepOf}
 use Rattle.extremes.specs.ClosestSweep.{noCloser}
 use Rattle.closest.specs.Inner.{atZero}

@@ -16,10 +16,13 @@ use Rattle.extremes.proofs.Taking.{BestFits, Unbeaten, unbeaten-stays}
 use Rattle.items.specs.Items.{Item, point, segment, triangle}
 use Rattle.items.specs.Inner.{itemAt}
 use Rattle.items.specs.Candidates.{candidatesOf}
-use Rattle.items.specs.Repeats.{AllSettled, firstAfter, firstBefore, secondAfter, secondBefore}
+use Rattle.measures.specs.InnerOffers.{AllSettled}
+use Rattle.items.specs.InnerRepeats.{firstAfter, firstBefore, secondAfter, secondBefore}
 use Rattle.items.specs.declared.Class.{Class}
-use Rattle.items.proofs.NotBelowZero.{Distant, candidates-not-below}
-use Rattle.items.proofs.Repeats.{settled-stays, measured-first, measured-second, second-turn, first-distant}
+use Rattle.measures.proofs.NotBelowZero.{Distant}
+use Rattle.measures.proofs.Settled.{settled-stays}
+use Rattle.items.proofs.NotBelowZero.{candidates-not-below}
+use Rattle.items.proofs.Repeats.{measured-first, measured-second, second-turn, first-distant}
 use Rattle.listing.specs.Rows.{numbersPerPlace, placeAt}
 use Rattle.listing.specs.Listing.{listedItem}
 use Rattle.items.specs.Closest.{withItem}

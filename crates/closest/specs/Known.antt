@@ -8,7 +8,8 @@ use lib.ListN.{getD}
 use lib.Ieee.{Float}
 use Rattle.primitives.specs.declared.Witness.{Witness}
 use Rattle.items.specs.Items.{Item}
-use Rattle.items.specs.Repeats.{AllSettled, secondAfter}
+use Rattle.measures.specs.InnerOffers.{AllSettled}
+use Rattle.items.specs.InnerRepeats.{secondAfter}
 use Rattle.listing.specs.declared.Place.{Place}
 use Rattle.listing.specs.Rows.{placeAt}
 use Rattle.listing.specs.Listing.{listedItem}

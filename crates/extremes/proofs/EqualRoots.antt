@@ -1,12 +1,12 @@
 -- Two sums whose roots compare equal have the same root, where the first is not at most the second: no root is +0 and the other -0. Assumes nothing.
 use mathlib.Core.Path.{_≡_, refl, sym, ap, _∙_, subst}
-use mathlib.Core.Bool.{Bool, true, false, _||_, true≢false, false≢true}
+use mathlib.Core.Bool.{Bool, true, false, _&&_, _||_, Bool·beq, true≢false, false≢true}
 use mathlib.Core.Logic.{_⊎_, inl, inr}
 use Prim.Native.Nat.{ℕ, zero, suc, _+_, _*_, _≤_, _<_}
 use native.Mathlib.Nat.{zero-mul, mul-pos, zero-lt-suc}
 use native.Mathlib.Omega.{arith}
 use borrow.Author.Tests.{eqb-true, ltb-true, ltb-false}
-use lib.Dec.{T, ltb, lt→ltb}
+use lib.Dec.{T, ltb, eqb, lt→ltb}
 use lib.IntN.{ℤ}
 use lib.Ieee.{Float, nan, inf, fin, binary64, up, down, lt, le, eq, fits, ofBits, toBits, isNan}
 use lib.Ieee.Bits.{ofBits-toBits}
@@ -109,3 +109,25 @@ equal (above m e f) (above n d g) l h = same-number m e n d f g h
 
 pub equal-roots : (s t : Float) → T (fits binary64 s) → T (fits binary64 t) → le s t ≡ false → eq (rootOf s) (rootOf t) ≡ true → rootOf s ≡ rootOf t
 equal-roots s t f g l h = equal (root-of s f) (root-of t g) l h
+
+-- ---- equality of floats, either way round
+like-either-way : (s t : Bool) → Bool·beq t s ≡ Bool·beq s t
+like-either-way true true = refl
+like-either-way true false = refl
+like-either-way false true = refl
+like-either-way false false = refl
+
+level-either-way : (s : Bool) (a : ℕ) (t : Bool) (b : ℕ) → (eqb a b && (Bool·beq s t || eqb a 0)) ≡ true → (eqb b a && (Bool·beq t s || eqb b 0)) ≡ true
+level-either-way s a t b h =
+    subst (λ (n : ℕ). (eqb a n && (Bool·beq s t || eqb a 0)) ≡ true → (eqb n a && (Bool·beq t s || eqb n 0)) ≡ true) (eqb-true a b (both-left _ _ h))
+    (λ k. ap (λ (z : Bool). eqb a a && (z || eqb a 0)) (like-either-way s t) ∙ k) h
+
+pub equal-either-way : (x y : Float) → eq x y ≡ true → eq y x ≡ true
+unfolding eq
+equal-either-way nan y h = absurd (false≢true h)
+equal-either-way (inf s) nan h = absurd (false≢true h)
+equal-either-way (inf s) (inf t) h = like-either-way s t ∙ h
+equal-either-way (inf s) (fin t n d) h = absurd (false≢true h)
+equal-either-way (fin s m e) nan h = absurd (false≢true h)
+equal-either-way (fin s m e) (inf t) h = absurd (false≢true h)
+equal-either-way (fin s m e) (fin t n d) h = level-either-way s (m * up e * down d) t (n * up d * down e) h

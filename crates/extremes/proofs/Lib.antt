@@ -6,11 +6,13 @@ pub mod Senses
 pub mod Distances
 pub mod FirstExtreme
 pub mod BoxOfAll
+pub mod EitherWay
 pub mod BoxSkips
 pub mod Taking
 pub mod BestSoFar
 pub mod EqualRoots
 pub mod Offered
+pub mod Closer
 pub mod NanBest
 pub mod Repeats
 pub mod ClosestPoints

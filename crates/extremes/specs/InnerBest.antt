@@ -3,7 +3,7 @@ use mathlib.Core.Path.{_≡_}
 use mathlib.Core.Bool.{true, false, cond}
 use mathlib.Core.Option.{Option, none, some}
 use lib.Dec.{T}
-use lib.Ieee.{nan, binary64, lt, fits}
+use lib.Ieee.{Float, nan, binary64, lt, le, fits}
 use Rattle.ieee754.specs.MinMax.{positiveZero}
 use Rattle.ieee754.specs.Root.{rootOf}
 use Rattle.primitives.specs.declared.Witness.{Witness}
@@ -23,3 +23,9 @@ pub record Sound (b : Best) : Type 0 where
 pub record Keeps (b : Best) (best : Option Witness) : Type 0 where
   pub same : bestOf b ≡ best
   pub sound : Sound b
+
+-- w, whose distance is the root of a sum, can be closer than the best: the sum is not at least the best's
+pub record CanWin (best : Best) (sum : Float) (w : Witness) : Type 0 where
+  pub root : w .d ≡ rootOf sum
+  pub fitting : T (fits binary64 sum)
+  pub less : le (best .sum) sum ≡ false

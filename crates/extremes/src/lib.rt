@@ -3,7 +3,8 @@ use primitives::Witness;
 ghost use mathlib.Core.Path.{_≡_};
 ghost use mathlib.Core.Option.{none};
 ghost use Rattle.extremes.specs.Found.{answerOf};
-ghost use Rattle.extremes.specs.InnerBest.{bestOf, Keeps};
+ghost use Rattle.extremes.specs.InnerBest.{bestOf, Sound, Keeps, CanWin};
+ghost use Rattle.extremes.specs.Sweeps.{shorter, taking};
 
 // The extreme pair that a sweep found, if there is a pair.
 pub enum ExtremePair {
@@ -15,6 +16,26 @@ pub enum ExtremePair {
 pub struct Best {
     pub sum: f64,
     pub witness: Witness,
+}
+
+impl Best {
+    // The closer of the best and w, whose distance is the root of the sum: the first witness is taken, a later one only if strictly less.
+    // Of equal distances the first witness stays, with the lesser sum: a third sum of the same root is then not less, and its root not taken.
+    pub fn closer(self, sum: f64, w: Witness) -> Best
+        requires { ⌜ Sound self ⌝ }
+        requires { ⌜ CanWin self sum w ⌝ }
+        ensures { λ r. ⌜ Keeps r (taking shorter (bestOf self) w) ⌝ }
+    {
+        let first = self.witness;
+        if first.d < 0.0 {
+            return Best { sum, witness: w };
+        }
+        let least = if w.d <= first.d { sum } else { self.sum };
+        Best {
+            sum: least,
+            witness: first.min(w),
+        }
+    }
 }
 
 // No witness yet.

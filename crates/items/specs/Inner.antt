@@ -1,25 +1,15 @@
--- What the items and the best witness by value stand for. Serves inner contracts. Definitions only.
+-- What the items by value stand for. Serves inner contracts. Definitions only.
 use Prim.Native.Nat.{ℕ, _+_, _-_}
-use mathlib.Core.Path.{_≡_}
-use mathlib.Core.Bool.{Bool, true, false, cond, _&&_}
-use mathlib.Core.List.{List, [], _∷_, _++_, foldl}
-use mathlib.Core.Option.{Option, none, some}
-use lib.Dec.{T}
-use lib.Ieee.{Float, nan, binary64, lt, le, fits}
-use Rattle.ieee754.specs.MinMax.{positiveZero}
-use Rattle.ieee754.specs.Root.{rootOf}
+use mathlib.Core.Bool.{Bool}
+use mathlib.Core.List.{List}
+use lib.Ieee.{Float}
 use Rattle.primitives.specs.declared.Point.{Point}
-use Rattle.primitives.specs.declared.Witness.{Witness}
-use Rattle.primitives.specs.Witnesses.{flippedOf}
-use Rattle.measures.specs.Measures.{segmentSegment, pointTriangle}
-use Rattle.extremes.specs.Sweeps.{shorter, taking}
 use Rattle.coords.specs.Parts.{Run, isPoint, isLine, isFace}
 use Rattle.parts.specs.Stored.{pointAt}
 use Rattle.items.specs.Items.{Item, point, segment, triangle, pointsOf, segmentsOf, trianglesOf, itemsOfKind}
 use Rattle.items.specs.declared.Class.{Class}
 use Rattle.items.specs.declared.Class.the-variants.{Points, Segments, Triangles}
 use Rattle.items.specs.declared.Shape.{Shape}
-use Rattle.extremes.specs.declared.Best.{Best}
 
 -- a point is a, a segment a b, a triangle a b c
 abbrev pub itemBy : Class → Point → Point → Point → Item
@@ -57,35 +47,3 @@ abbrev pub itemAt : Class → List Float → ℕ → ℕ → Item
 itemAt Points floats at j = point (pointAt floats (at + j))
 itemAt Segments floats at j = segment (pointAt floats (at + j)) (pointAt floats (at + j + 1))
 itemAt Triangles floats at j = triangle (pointAt floats at) (pointAt floats (at + j + 1)) (pointAt floats (at + j + 2))
-
--- each of three sums is at least the best's; not so where one is NaN
-abbrev pub noneLess : Float → Float → Float → Float → Bool
-noneLess least x y z = le least x && (le least y && le least z)
-
--- witnesses offered in order: the first is taken, a later one only if strictly closer
-abbrev pub offeredAll : Option Witness → List Witness → Option Witness
-offeredAll best ws = foldl (taking shorter) best ws
-
--- the points exchanged where that is asked for
-abbrev pub flippedIf : Bool → Witness → Witness
-flippedIf flip w = cond flip (flippedOf w) w
-
--- a segment with the edges of a triangle
-abbrev pub edgeWitnesses : Point → Point → Point → Point → Point → List Witness
-edgeWitnesses p q a b c = segmentSegment p q a b ∷ segmentSegment p q b c ∷ segmentSegment p q c a ∷ []
-
--- the vertices of a triangle with another triangle
-abbrev pub vertexWitnesses : Bool → Point → Point → Point → Point → Point → Point → List Witness
-vertexWitnesses flip a b c d e f =
-    flippedIf flip (pointTriangle a d e f)
-    ∷ flippedIf flip (pointTriangle b d e f)
-    ∷ flippedIf flip (pointTriangle c d e f)
-    ∷ []
-
--- what two triangles are measured by, in order: the edges of the first with those of the second, then the vertices of each
-abbrev pub triangleWitnesses : Point → Point → Point → Point → Point → Point → List Witness
-triangleWitnesses a b c d e f =
-    edgeWitnesses a b d e f
-    ++ (edgeWitnesses b c d e f
-    ++ (edgeWitnesses c a d e f
-    ++ (vertexWitnesses false a b c d e f ++ vertexWitnesses true d e f a b c)))

@@ -2,4 +2,4 @@ pub mod Items
 pub mod Candidates
 pub mod Closest
 pub mod Inner
-pub mod Repeats
+pub mod InnerRepeats

@@ -1,2 +1,3 @@
 pub mod Measures
-pub mod Squared
+pub mod InnerUnrooted
+pub mod InnerOffers

@@ -1,24 +1,35 @@
-// The pair measures: point, segment and triangle against each other. Roots are left to the caller.
+// The pair measures: point, segment and triangle against each other. A sum of squares that can't beat the best so far needs no root,
+// so `pt_seg` and `seg_seg` give their witness with the root not taken, and `pt_tri` and `tri_tri` offer theirs to the best, one by one.
+use extremes::Best;
 use primitives::Point;
+use primitives::Witness;
 ghost use mathlib.Core.Path.{_≡_};
+ghost use mathlib.Core.Bool.{true};
+ghost use mathlib.Core.List.{[], _∷_};
+ghost use lib.Dec.{T};
+ghost use lib.Ieee.{binary64, fits};
 ghost use Rattle.primitives.specs.Vectors.{dotOf};
 ghost use Rattle.primitives.specs.Witnesses.{betweenOf, flippedOf};
-ghost use Rattle.measures.specs.Measures.{footParameter, pointSegment, firstParameter, parametersOf, segmentSegment, normalOf, footOf, innerSide, insideTriangle, footInside};
-ghost use Rattle.measures.specs.Squared.{rooted, Squares};
+ghost use Rattle.extremes.specs.Sweeps.{shorter, taking};
+ghost use Rattle.extremes.specs.InnerBest.{bestOf, Sound, Keeps};
+ghost use Rattle.measures.specs.declared.Triangle.{Triangle};
+ghost use Rattle.measures.specs.Measures.{footParameter, pointSegment, firstParameter, parametersOf, segmentSegment, normalOf, footOf, innerSide, insideTriangle, footInside, pointEdges, pointTriangle, triangleTriangle};
+ghost use Rattle.measures.specs.InnerUnrooted.{rootedOf, StandsFor};
+ghost use Rattle.measures.specs.InnerOffers.{eachAtLeast, offeredAll, AllSettled, flippedIf, edgeWitnesses, vertexWitnesses, sharedByFirst, sharedBySecond};
 
 // Two points with the sum of squares of their distance: a witness whose root is not taken.
-pub struct Squared {
+pub struct UnrootedWitness {
     pub sum: f64,
     pub a: Point,
     pub b: Point,
 }
 
-impl Squared {
+impl UnrootedWitness {
     // Two points.
-    pub fn between(a: Point, b: Point) -> Squared
-        ensures { λ r. ⌜ Squares r (betweenOf a b) ⌝ }
+    pub fn between(a: Point, b: Point) -> UnrootedWitness
+        ensures { λ r. ⌜ StandsFor r (betweenOf a b) ⌝ }
     {
-        Squared {
+        UnrootedWitness {
             sum: primitives::dist_sq(a, b),
             a,
             b,
@@ -26,15 +37,30 @@ impl Squared {
     }
 
     // The same sum, its points exchanged.
-    pub fn flipped(self) -> Squared
-        ensures { λ r. ⌜ (rooted r ≡ flippedOf (rooted self)) × (r .sum ≡ self .sum) ⌝ }
+    fn flipped(self) -> UnrootedWitness
+        ensures { λ r. ⌜ ((w : Witness) → StandsFor self w → StandsFor r (flippedOf w)) ⌝ }
     {
         let a = self.a;
         let b = self.b;
-        Squared {
+        UnrootedWitness {
             sum: self.sum,
             a: b,
             b: a,
+        }
+    }
+
+    // The witness, its root taken.
+    pub fn rooted(self) -> Witness
+        ensures { λ r. ⌜ r ≡ rootedOf self ⌝ }
+    {
+        Witness {
+            d: ieee754::root(self.sum),
+            ax: self.a.x,
+            ay: self.a.y,
+            az: self.a.z,
+            bx: self.b.x,
+            by: self.b.y,
+            bz: self.b.z,
         }
     }
 }
@@ -53,10 +79,10 @@ fn foot_parameter(p: Point, a: Point, b: Point) -> f64
 }
 
 // A point and a segment.
-pub fn pt_seg(p: Point, a: Point, b: Point) -> Squared
-    ensures { λ r. ⌜ Squares r (pointSegment p a b) ⌝ }
+pub fn pt_seg(p: Point, a: Point, b: Point) -> UnrootedWitness
+    ensures { λ r. ⌜ StandsFor r (pointSegment p a b) ⌝ }
 {
-    Squared::between(p, primitives::interpolated(a, b, foot_parameter(p, a, b)))
+    UnrootedWitness::between(p, primitives::interpolated(a, b, foot_parameter(p, a, b)))
 }
 
 // The parameters of two segments' nearest points.
@@ -111,8 +137,8 @@ fn nearest_parameters(d1: Point, a: f64, d2: Point, e: f64, r: Point) -> Paramet
 const EPSILON: f64 = 2.220446049250313e-16;
 
 // Two segments; a squared length of at most 2^-52 is taken as a point.
-pub fn seg_seg(p1: Point, q1: Point, p2: Point, q2: Point) -> Squared
-    ensures { λ r. ⌜ Squares r (segmentSegment p1 q1 p2 q2) ⌝ }
+pub fn seg_seg(p1: Point, q1: Point, p2: Point, q2: Point) -> UnrootedWitness
+    ensures { λ r. ⌜ StandsFor r (segmentSegment p1 q1 p2 q2) ⌝ }
 {
     let d1 = primitives::difference(q1, p1);
     let d2 = primitives::difference(q2, p2);
@@ -120,7 +146,7 @@ pub fn seg_seg(p1: Point, q1: Point, p2: Point, q2: Point) -> Squared
     let e = primitives::dot(d2, d2);
     if a <= EPSILON {
         if e <= EPSILON {
-            return Squared::between(p1, p2);
+            return UnrootedWitness::between(p1, p2);
         }
         return pt_seg(p1, p2, q2);
     }
@@ -128,7 +154,7 @@ pub fn seg_seg(p1: Point, q1: Point, p2: Point, q2: Point) -> Squared
         return pt_seg(p2, p1, q1).flipped();
     }
     let k = nearest_parameters(d1, a, d2, e, primitives::difference(p1, p2));
-    Squared::between(
+    UnrootedWitness::between(
         primitives::interpolated(p1, q1, k.s),
         primitives::interpolated(p2, q2, k.t),
     )
@@ -196,4 +222,195 @@ pub fn plane_foot(p: Point, a: Point, b: Point, c: Point) -> PlaneFoot
         inside: false,
         foot: f,
     }
+}
+
+// A filled triangle.
+pub struct Triangle {
+    pub a: Point,
+    pub b: Point,
+    pub c: Point,
+}
+
+// The closer of the best and the witness of s, its points exchanged where that is asked for. No root is taken where the sum is not less than the best's.
+pub fn offered(best: Best, s: UnrootedWitness, flip: bool) -> Best
+    requires { ⌜ Sound best ⌝ }
+    requires { ⌜ T (fits binary64 (s .sum)) ⌝ }
+    ensures { λ r. ⌜ Keeps r (taking shorter (bestOf best) (flippedIf flip (rootedOf s))) ⌝ }
+{
+    let sum = s.sum;
+    if sum >= best.sum {
+        return best;
+    }
+    let found = s.rooted();
+    let w = if flip { found.flipped() } else { found };
+    best.closer(sum, w)
+}
+
+// Whether each of three sums of squares is at least the best's.
+fn each_at_least(least: f64, x: f64, y: f64, z: f64) -> bool
+    ensures { λ r. ⌜ r ≡ eachAtLeast least x y z ⌝ }
+{
+    if x >= least {
+        if y >= least {
+            return z >= least;
+        }
+    }
+    false
+}
+
+// A point and the nearest of a triangle's edges, edge by edge; the first is kept where its distance is NaN.
+fn pt_edges(best: Best, p: Point, t: Triangle, flip: bool) -> Best
+    requires { ⌜ Sound best ⌝ }
+    ensures { λ r. ⌜ Keeps r (taking shorter (bestOf best) (flippedIf flip (pointEdges p (t .a) (t .b) (t .c)))) ⌝ }
+{
+    let a = t.a;
+    let b = t.b;
+    let c = t.c;
+    let x = pt_seg(p, a, b);
+    let y = pt_seg(p, b, c);
+    let z = pt_seg(p, c, a);
+    if each_at_least(best.sum, x.sum, y.sum, z.sum) {
+        return best;
+    }
+    let first = offered(best, x, flip);
+    if x.sum >= 0.0 {
+        return offered(offered(first, y, flip), z, flip);
+    }
+    first
+}
+
+// A point and a filled triangle: the foot where it lies inside, else the nearest edge.
+pub fn pt_tri(best: Best, p: Point, t: Triangle, flip: bool) -> Best
+    requires { ⌜ Sound best ⌝ }
+    ensures { λ r. ⌜ Keeps r (taking shorter (bestOf best) (flippedIf flip (pointTriangle p (t .a) (t .b) (t .c)))) ⌝ }
+{
+    let a = t.a;
+    let b = t.b;
+    let c = t.c;
+    let f = plane_foot(p, a, b, c);
+    if f.inside {
+        let foot = f.foot;
+        return offered(best, UnrootedWitness::between(p, foot), flip);
+    }
+    pt_edges(best, p, t, flip)
+}
+
+// The segment p q against the edges of a triangle a b c; a best of distance 0 stays. Where the edge b c was measured before, it is spared.
+pub fn seg_edges(best: Best, p: Point, q: Point, t: Triangle, closes: bool) -> Best
+    requires { ⌜ Sound best ⌝ }
+    requires { ⌜ (closes ≡ true → taking shorter (bestOf best) (segmentSegment p q (t .b) (t .c)) ≡ bestOf best) ⌝ }
+    ensures { λ r. ⌜ Keeps r (offeredAll (bestOf best) (edgeWitnesses p q (t .a) (t .b) (t .c))) ⌝ }
+{
+    if best.sum == 0.0 {
+        return best;
+    }
+    let a = t.a;
+    let b = t.b;
+    let c = t.c;
+    let x = seg_seg(p, q, a, b);
+    let z = seg_seg(p, q, c, a);
+    if closes {
+        if x.sum >= best.sum {
+            if z.sum >= best.sum {
+                return best;
+            }
+        }
+        return offered(offered(best, x, false), z, false);
+    }
+    let y = seg_seg(p, q, b, c);
+    if each_at_least(best.sum, x.sum, y.sum, z.sum) {
+        return best;
+    }
+    offered(offered(offered(best, x, false), y, false), z, false)
+}
+
+// Whether two floats have the same bits.
+fn same_bits(x: f64, y: f64) -> bool
+    ensures { λ r. ⌜ (r ≡ true → x ≡ y) ⌝ }
+{
+    ieee754::to_pattern(x) == ieee754::to_pattern(y)
+}
+
+// Whether two points have the same bits.
+fn same(a: Point, b: Point) -> bool
+    ensures { λ r. ⌜ (r ≡ true → a ≡ b) ⌝ }
+{
+    if same_bits(a.x, b.x) {
+        if same_bits(a.y, b.y) {
+            return same_bits(a.z, b.z);
+        }
+    }
+    false
+}
+
+// Each vertex of a triangle a b c against another; a best of distance 0 stays. Where a and b were measured before, they are spared, and so is c where it is a.
+fn vertices(best: Best, t: Triangle, other: Triangle, flip: bool, again: bool) -> Best
+    requires { ⌜ Sound best ⌝ }
+    requires { ⌜ (again ≡ true → AllSettled (bestOf best) (flippedIf flip (pointTriangle (t .a) (other .a) (other .b) (other .c)) ∷ flippedIf flip (pointTriangle (t .b) (other .a) (other .b) (other .c)) ∷ [])) ⌝ }
+    ensures { λ r. ⌜ Keeps r (offeredAll (bestOf best) (vertexWitnesses flip (t .a) (t .b) (t .c) (other .a) (other .b) (other .c))) ⌝ }
+{
+    if best.sum == 0.0 {
+        return best;
+    }
+    let a = t.a;
+    let b = t.b;
+    let c = t.c;
+    if again {
+        if same(a, c) {
+            return best;
+        }
+        return pt_tri(best, c, other, flip);
+    }
+    let first = pt_tri(best, a, other, flip);
+    let second = pt_tri(first, b, other, flip);
+    if same(a, c) {
+        return second;
+    }
+    pt_tri(second, c, other, flip)
+}
+
+// Whether a triangle a b c follows a measured one and ends a closed ring: c is a.
+fn closes_ring(follows: bool, a: Point, c: Point) -> bool
+    ensures { λ r. ⌜ (r ≡ true → (follows ≡ true) × (a ≡ c)) ⌝ }
+{
+    if follows {
+        return same(a, c);
+    }
+    false
+}
+
+// Two filled triangles: +infinity, each pair of edges, then the vertices of each against the other. What each shares with the one before it in its fan is spared where that one was measured (follows_t, follows_u).
+pub fn tri_tri(best: Best, t: Triangle, u: Triangle, follows_t: bool, follows_u: bool) -> Best
+    requires { ⌜ Sound best ⌝ }
+    requires { ⌜ («follows_t» ≡ true → AllSettled (bestOf best) (sharedByFirst (t .a) (t .b) (u .a) (u .b) (u .c))) ⌝ }
+    requires { ⌜ («follows_u» ≡ true → AllSettled (bestOf best) (sharedBySecond (t .a) (t .b) (t .c) (u .a) (u .b))) ⌝ }
+    ensures { λ r. ⌜ Keeps r (taking shorter (bestOf best) (triangleTriangle (t .a) (t .b) (t .c) (u .a) (u .b) (u .c))) ⌝ }
+{
+    let a = t.a;
+    let b = t.b;
+    let c = t.c;
+    let d = u.a;
+    let f = u.c;
+    let infinity = UnrootedWitness {
+        sum: 1.0 / 0.0,
+        a,
+        b: d,
+    };
+    let start = offered(best, infinity, false);
+    let t_closes = closes_ring(follows_t, a, c);
+    let u_closes = closes_ring(follows_u, d, f);
+    let first = seg_edges(start, a, b, u, u_closes);
+    let second = if t_closes {
+        first
+    } else {
+        seg_edges(first, b, c, u, u_closes)
+    };
+    let third = seg_edges(second, c, a, u, u_closes);
+    vertices(
+        vertices(third, t, u, false, follows_t),
+        u,
+        t,
+        true,
+        follows_u,
+    )
 }

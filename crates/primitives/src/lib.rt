@@ -1,7 +1,7 @@
 // Points, witnesses and boxes, by value.
 ghost use mathlib.Core.Path.{_≡_};
 ghost use Rattle.primitives.specs.Vectors.{differenceOf, dotOf, crossOf, interpolatedOf, normOf, squaredDistance};
-ghost use Rattle.primitives.specs.Witnesses.{betweenOf, smallerOf, firstPoint, secondPoint, flippedOf};
+ghost use Rattle.primitives.specs.Witnesses.{betweenOf, smallerOf, flippedOf};
 ghost use Rattle.primitives.specs.Boxes.{boxOfPoint, addPoint, leastCorner, greatestCorner, unionOf, squared, leastGap, greatestGap, leastSquaredGap, greatestSquaredGap};
 
 // A point, or a vector.
@@ -110,26 +110,6 @@ impl Witness {
             bx: self.ax,
             by: self.ay,
             bz: self.az,
-        }
-    }
-
-    pub fn first_point(self) -> Point
-        ensures { λ r. ⌜ r ≡ firstPoint self ⌝ }
-    {
-        Point {
-            x: self.ax,
-            y: self.ay,
-            z: self.az,
-        }
-    }
-
-    pub fn second_point(self) -> Point
-        ensures { λ r. ⌜ r ≡ secondPoint self ⌝ }
-    {
-        Point {
-            x: self.bx,
-            y: self.by,
-            z: self.bz,
         }
     }
 }

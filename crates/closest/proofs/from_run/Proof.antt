@@ -11,7 +11,7 @@ use Rattle.items.proofs.Turns.{itemsLeft, left-start, left-none, turn-item}
 use Rattle.items.specs.Inner.{itemAt, itemsBy, itemCount}
 use Rattle.extremes.specs.InnerBest.{bestOf, Sound}
 use Rattle.items.specs.Items.{itemsOf}
-use Rattle.items.specs.Repeats.{firstBefore}
+use Rattle.items.specs.InnerRepeats.{firstBefore}
 use Rattle.items.specs.Closest.{sweepOf}
 use Rattle.closest.specs.Known.{Known}
 use Rattle.closest.proofs.Folds.{and-true, sweep-next, sweep-at-zero}

@@ -11,7 +11,8 @@ use Rattle.parts.specs.Stored.{runCount}
 use Rattle.parts.proofs.Turns.{room-run, room-next}
 use Rattle.primitives.specs.Boxes.{leastSquaredGap}
 use Rattle.items.specs.Items.{boxOfItem}
-use Rattle.items.specs.Repeats.{AllSettled, secondBefore}
+use Rattle.measures.specs.InnerOffers.{AllSettled}
+use Rattle.items.specs.InnerRepeats.{secondBefore}
 use Rattle.extremes.proofs.BestSoFar.{sound-fits}
 use Rattle.items.specs.Inner.{itemOf, itemAt}
 use Rattle.extremes.specs.InnerBest.{bestOf, Sound, Keeps}

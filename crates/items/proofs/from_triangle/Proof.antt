@@ -1,6 +1,7 @@
 -- `items::from_triangle` meets its contract. Assumes nothing.
 use borrow.Author.Needs.{needs}
 use Rattle.items.specs.Candidates.{candidatesOf}
+use Rattle.items.specs.InnerRepeats.{firstBefore, secondBefore}
 use Rattle.items.proofs.from_triangle.Statement.{statement}
 use Rattle.items.proofs.from_triangle.Tie as tie
 
@@ -20,6 +21,7 @@ enum-told-3 : tie.Need-enum-told-3
 enum-told-3 c = search needs
 
 tri-tri-requires : tie.Need-tri-tri-requires
+unfolding firstBefore secondBefore
 tri-tri-requires c κs = let start = c .before .before .before .before .before in (start .pre .0, (λ t. rw (c .enum-told3 .given .1) at (start .pre .1 .0 t), λ t. rw (c .enum-told3 .given .1) at (start .pre .1 .1 t)))
 
 returns : tie.Need-returns

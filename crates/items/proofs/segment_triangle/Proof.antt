@@ -7,7 +7,8 @@ use Rattle.measures.specs.Measures.{pointTriangle}
 use Rattle.extremes.specs.Sweeps.{shorter, taking}
 use Rattle.items.specs.Candidates.{candidatesOf}
 use Rattle.extremes.specs.InnerBest.{bestOf, Keeps}
-use Rattle.items.specs.Repeats.{AllSettled, firstBefore}
+use Rattle.items.specs.InnerRepeats.{firstBefore}
+use Rattle.measures.specs.InnerOffers.{AllSettled}
 use Rattle.items.proofs.segment_triangle.Statement.{statement}
 use Rattle.items.proofs.segment_triangle.Tie as tie
 
@@ -15,7 +16,7 @@ pt-tri-requires : tie.Need-pt-tri-requires
 pt-tri-requires c κs = search needs
 
 -- the start of the segment, measured or spared
-start-offered : (c : tie.Joined1) → Keeps (c .if1 .start) (taking shorter (bestOf (c .before .args .best)) (pointTriangle (c .before .args .s) (c .before .args .a) (c .before .args .b) (c .before .args .c)))
+start-offered : (c : tie.Joined1) → Keeps (c .if1 .start) (taking shorter (bestOf (c .before .args .best)) (pointTriangle (c .before .args .s) (c .before .args .t .a) (c .before .args .t .b) (c .before .args .t .c)))
 unfolding AllSettled firstBefore
 start-offered c =
     ⊎-elim

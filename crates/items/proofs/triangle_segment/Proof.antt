@@ -7,7 +7,8 @@ use Rattle.measures.specs.Measures.{pointTriangle}
 use Rattle.extremes.specs.Sweeps.{shorter, taking}
 use Rattle.items.specs.Candidates.{candidatesOf}
 use Rattle.extremes.specs.InnerBest.{bestOf, Keeps}
-use Rattle.items.specs.Repeats.{AllSettled, secondBefore}
+use Rattle.items.specs.InnerRepeats.{secondBefore}
+use Rattle.measures.specs.InnerOffers.{AllSettled}
 use Rattle.items.proofs.triangle_segment.Statement.{statement}
 use Rattle.items.proofs.triangle_segment.Tie as tie
 
@@ -15,7 +16,7 @@ pt-tri-requires : tie.Need-pt-tri-requires
 pt-tri-requires c κs = search needs
 
 -- the start of the segment, measured or spared
-start-offered : (c : tie.Joined1) → Keeps (c .if1 .start) (taking shorter (bestOf (c .before .args .best)) (flippedOf (pointTriangle (c .before .args .s) (c .before .args .a) (c .before .args .b) (c .before .args .c))))
+start-offered : (c : tie.Joined1) → Keeps (c .if1 .start) (taking shorter (bestOf (c .before .args .best)) (flippedOf (pointTriangle (c .before .args .s) (c .before .args .t .a) (c .before .args .t .b) (c .before .args .t .c))))
 unfolding AllSettled secondBefore
 start-offered c =
     ⊎-elim
@@ -48,8 +49,8 @@ returns : tie.Need-returns
 unfolding candidatesOf
 returns c =
     rw (
-      ← start-offered (c .before .before .before .before .before .before .before) .same,
-      ← c .before .before .before .before .before .before .pt-tri2 .ensures .same,
+      ← start-offered (c .before .before .before .before .before .before .before .before .before .before) .same,
+      ← c .before .before .before .before .before .before .before .before .before .pt-tri2 .ensures .same,
       ← c .before .before .before .before .before .seg-seg .ensures .same,
       ← c .before .before .before .before .offered .ensures .same,
       ← c .before .before .before .seg-seg2 .ensures .same,

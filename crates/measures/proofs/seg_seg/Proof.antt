@@ -67,7 +67,7 @@ returns-3 c =
       c .before .before .before .if1 .left,
       c .before .before .if3 .taken,
     )
-    (record { same = cc; fitting = rw (c .flipped .ensures .1) (c .before .pt-seg2 .ensures .fitting) })
+    (c .flipped .ensures _ (c .before .pt-seg2 .ensures))
 
 difference-requires-3 : tie.Need-difference-requires-3
 difference-requires-3 c κs = search needs
