@@ -10,7 +10,7 @@ root-requires c κs = search needs
 
 returns : tie.Need-returns
 unfolding rootedOf witnessOf
-returns c = rw (c .root .ensures)
+returns c = rw (c .root .ensures .0)
 
 pub rooted-spec : {M : Type 1} → statement M
 rooted-spec = tie.close (tie.spec root-requires returns)
