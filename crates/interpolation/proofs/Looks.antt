@@ -114,17 +114,17 @@ module _ (s : List ℕ) (at kind : ℕ) (o : OwnRuns s at kind) (counted : Count
   pub own-refused : (k : ℕ) → counted ≡ counts.Refused k → SaysOf s at content.PointOrFace
   own-refused k q = unfold isAccepted in absurd (true≢false (sym (rw (counted-refused (walkOf allLevels s at) k counted p q) at (o .accepted))))
 
-  module _ (coords runs end : ℕ) (q : counted ≡ counts.Accepted coords runs end) where
+  module _ (coords runs end : ℕ) {others : ℕ} (q : counted ≡ counts.Accepted coords runs others end) where
     tree : Geometry
-    tree = counted-accepted (walkOf allLevels s at) coords runs end counted p q .tree
+    tree = counted-accepted (walkOf allLevels s at) coords runs others end counted p q .tree
 
     read : walkRuns allLevels s at ≡ ok (runsOf tree) end
     unfolding mapParsed tree
-    read = ap (mapParsed runsOf) (counted-accepted (walkOf allLevels s at) coords runs end counted p q .read)
+    read = ap (mapParsed runsOf) (counted-accepted (walkOf allLevels s at) coords runs others end counted p q .read)
 
     number : runs ≡ length (runsOf tree)
     unfolding walkedRuns tree
-    number = let c = counted-accepted (walkOf allLevels s at) coords runs end counted p q in rw (c .read) at (c .number)
+    number = let c = counted-accepted (walkOf allLevels s at) coords runs others end counted p q in rw (c .read) at (c .number)
 
     of-kind : Each (OfKind kind) (runsOf tree)
     unfolding AllOf

@@ -98,9 +98,9 @@ header-read s at code srid o p q = go (firstOf (headerChecks s)) refl
 
 -- ---- the walk
 
-pub counted-at : (s : List ℕ) (at coords runs end : ℕ) (o : Counts) → o ≡ countsOf (walkOf allLevels s at) → o ≡ counts.Accepted coords runs end → Counted (walkOf allLevels s at) coords runs
-counted-at s at coords runs end o p q =
-    let c = counted-accepted (walkOf allLevels s at) coords runs end o p q in
+pub counted-at : (s : List ℕ) (at coords runs end : ℕ) {others : ℕ} (o : Counts) → o ≡ countsOf (walkOf allLevels s at) → o ≡ counts.Accepted coords runs others end → Counted (walkOf allLevels s at) coords runs
+counted-at s at coords runs end {others} o p q =
+    let c = counted-accepted (walkOf allLevels s at) coords runs others end o p q in
     record { accepted = c .accepted; coordinates = c .coordinates; number = c .number }
 
 -- the fraction is in range and the header is read
@@ -114,9 +114,9 @@ module _ (s : List ℕ) (fraction : Float) (floats numbers output : ℕ) (range 
       answer-is s fraction floats numbers output (some (sided 1 k))
       (rw (← r, in-range, h .none-holds, refused-is-given s (geometryStart s) k (counted-refused (walkOfBlob s) k o walked q)))
 
-  module _ (coords runs end : ℕ) (q : o ≡ counts.Accepted coords runs end) (line : Bool) (l : line ≡ isNoLine (walkedRuns (walkOf allLevels s at))) where
+  module _ (coords runs end : ℕ) {others : ℕ} (q : o ≡ counts.Accepted coords runs others end) (line : Bool) (l : line ≡ isNoLine (walkedRuns (walkOf allLevels s at))) where
     none-of-walk : firstOf (walkChecks s (geometryStart s)) ≡ none
-    none-of-walk = let c = counted-accepted (walkOfBlob s) coords runs end o walked q in accepted-gives-none s (geometryStart s) (c .tree) end (c .read)
+    none-of-walk = let c = counted-accepted (walkOfBlob s) coords runs others end o walked q in accepted-gives-none s (geometryStart s) (c .tree) end (c .read)
 
     line-is : isNoLine (runsOfBlob s) ≡ line
     line-is = sym (l ∙ ap (λ (i : ℕ). isNoLine (walkedRuns (walkOf allLevels s i))) (h .start))
@@ -127,7 +127,7 @@ module _ (s : List ℕ) (fraction : Float) (floats numbers output : ℕ) (range 
 
     module _ (is-line : line ≡ false) (small : Bool) (t : small ≡ tooSmallFor coords runs floats numbers) where
       small-is : tooSmall (runsOfBlob s) floats numbers ≡ small
-      small-is = let c = counted-accepted (walkOfBlob s) coords runs end o walked q in sym (t ∙ rw (c .coordinates, c .number))
+      small-is = let c = counted-accepted (walkOfBlob s) coords runs others end o walked q in sym (t ∙ rw (c .coordinates, c .number))
 
       pub by-room : small ≡ true → checked.Refused (sided 1 15) ≡ checkedOf s fraction floats numbers output
       unfolding checkedBy when given orElse after-walk
@@ -141,7 +141,7 @@ module _ (s : List ℕ) (fraction : Float) (floats numbers output : ℕ) (range 
         pub by-none : pointBytes ≤ output → checked.Accepted at coords runs srid ≡ checkedOf s fraction floats numbers output
         unfolding checkedBy when given orElse after-walk
         by-none e =
-            let c = counted-accepted (walkOfBlob s) coords runs end o walked q in
+            let c = counted-accepted (walkOfBlob s) coords runs others end o walked q in
             rw (h .start, h .own, c .coordinates, c .number)
             (answer-is s fraction floats numbers output none (rw (← r, in-range, h .none-holds, none-of-walk, line-is, is-line, small-is, fits, le-ltb output pointBytes e)))
 

@@ -86,7 +86,12 @@ fn own_content(s: &[u8], at: usize, kind: u32) -> Content
 {
     match coords::count(s, at) {
         Counts::Refused(_) => Content::PointOrFace,
-        Counts::Accepted { coords, runs, end } => {
+        Counts::Accepted {
+            coords,
+            runs,
+            others,
+            end,
+        } => {
             if kind == LINE {
                 return Content::Neither { end };
             }
@@ -169,7 +174,12 @@ fn check(s: &[u8], fraction: f64, floats: usize, numbers: usize, output: usize) 
         Header::Refused(number) => Checked::Refused(Refusal { number, side: 1 }),
         Header::Found { at, code, srid } => match coords::count(s, at) {
             Counts::Refused(number) => Checked::Refused(Refusal { number, side: 1 }),
-            Counts::Accepted { coords, runs, end } => {
+            Counts::Accepted {
+                coords,
+                runs,
+                others,
+                end,
+            } => {
                 if is_no_line(s, at, coords, runs) {
                     return Checked::Refused(Refusal {
                         number: 14,
