@@ -119,8 +119,8 @@ module _ (s : List ℕ) (side : ℕ) (top : TopHeader) (starts : top ≡ topHead
   unfolding operandBy
   walk-refused k q = rw (refused-is-given s (geometryStart s) k (counted-refused (walkOfBlob s) k o walked q))
 
-  pub walk-read : (coords runs end : ℕ) → o ≡ counts.Accepted coords runs end → operand-read.Read (record { at = top .at; end = end; coords = coords; runs = runs; srid = top .srid }) ≡ operandBy (firstOf (walkChecks s (geometryStart s))) side s
+  pub walk-read : (coords runs others end : ℕ) → o ≡ counts.Accepted coords runs others end → operand-read.Read (record { at = top .at; end = end; coords = coords; runs = runs; others = others; srid = top .srid }) ≡ operandBy (firstOf (walkChecks s (geometryStart s))) side s
   unfolding operandBy endOf
-  walk-read coords runs end q =
-      let c = counted-accepted (walkOfBlob s) coords runs end o walked q in
-      rw (starts, c .coordinates, c .number, accepted-gives-none s (geometryStart s) (c .tree) end (c .read), c .read)
+  walk-read coords runs others end q =
+      let c = counted-accepted (walkOfBlob s) coords runs others end o walked q in
+      rw (starts, c .coordinates, c .number, c .other, accepted-gives-none s (geometryStart s) (c .tree) end (c .read), c .read)

@@ -7,7 +7,7 @@ use lib.ListN.{length}
 use Rattle.refusals.specs.declared.Refusal.{Refusal}
 use Rattle.gpb.specs.Header.{geometryStart, sridOf}
 use Rattle.coords.specs.Walk.{Geometry, Parsed, ok, refused}
-use Rattle.coords.specs.Parts.{coordinateCount}
+use Rattle.coords.specs.Parts.{coordinateCount, otherCount}
 use Rattle.blob.specs.Blob.{walkOfBlob, runsOfBlob}
 use Rattle.blob.specs.declared.TopHeader.{TopHeader}
 use Rattle.blob.specs.declared.HeaderRead.{HeaderRead}
@@ -46,6 +46,7 @@ operandOf s =
       end = endOf (walkOfBlob s);
       coords = coordinateCount (runsOfBlob s);
       runs = length (runsOfBlob s);
+      others = otherCount (runsOfBlob s);
       srid = sridOf s;
     }
 

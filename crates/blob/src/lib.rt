@@ -25,12 +25,14 @@ pub enum HeaderRead {
     Refused(Refusal),
 }
 
-// Where a blob's geometry starts and ends, its coordinates and runs, and the SRID's bits.
+// Where a blob's geometry starts and ends, its coordinates and runs, those of them that are points or faces, and the
+// SRID's bits.
 pub struct Operand {
     pub at: usize,
     pub end: usize,
     pub coords: usize,
     pub runs: usize,
+    pub others: usize,
     pub srid: u32,
 }
 
@@ -95,11 +97,17 @@ pub fn read_walk(s: &[u8], top: TopHeader, side: u8) -> OperandRead
 {
     match coords::count(s, top.at) {
         Counts::Refused(number) => OperandRead::Refused(Refusal { number, side }),
-        Counts::Accepted { coords, runs, end } => OperandRead::Read(Operand {
-            at: top.at,
-            end,
+        Counts::Accepted {
             coords,
             runs,
+            others,
+            end,
+        } => OperandRead::Read(Operand {
+            at: top.at,
+            end: end,
+            coords,
+            runs,
+            others,
             srid: top.srid,
         }),
     }

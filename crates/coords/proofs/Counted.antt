@@ -5,7 +5,7 @@ use Prim.Native.Nat.{ℕ}
 use native.Mathlib.Omega.{arith}
 use lib.ListN.{length}
 use Rattle.coords.specs.Walk.{Geometry, Parsed, ok, refused, mapParsed}
-use Rattle.coords.specs.Parts.{walkedRuns, coordinateCount}
+use Rattle.coords.specs.Parts.{walkedRuns, coordinateCount, otherCount}
 use Rattle.coords.specs.Refusals.{isAccepted}
 use Rattle.coords.specs.Counts.{runCounts, countsOf}
 use Rattle.coords.specs.declared.Counts.{Counts}
@@ -18,16 +18,17 @@ counted-refused (refused j) k o p q = let e : k ≡ j = cc in rw e
 counted-refused (ok g end) k o p q = let z : _≡_ {A = ℕ} 0 1 = cc in absurd (omega arith)
 
 -- otherwise the walk read a tree, whose runs were counted
-pub record Counted (w : Parsed Geometry) (coords runs end : ℕ) : Type 0 where
+pub record Counted (w : Parsed Geometry) (coords runs others end : ℕ) : Type 0 where
   pub tree : Geometry
   pub read : w ≡ ok tree end
   pub accepted : isAccepted w ≡ true
   pub coordinates : coords ≡ coordinateCount (walkedRuns w)
   pub number : runs ≡ length (walkedRuns w)
+  pub other : others ≡ otherCount (walkedRuns w)
 
-pub counted-accepted : (w : Parsed Geometry) (a b e : ℕ) (o : Counts) → o ≡ countsOf w → o ≡ counts.Accepted a b e → Counted w a b e
+pub counted-accepted : (w : Parsed Geometry) (a b c e : ℕ) (o : Counts) → o ≡ countsOf w → o ≡ counts.Accepted a b c e → Counted w a b c e
 unfolding mapParsed runCounts isAccepted walkedRuns
-counted-accepted (refused j) a b e o p q = let z : _≡_ {A = ℕ} 0 1 = cc in absurd (omega arith)
-counted-accepted (ok g end) a b e o p q =
+counted-accepted (refused j) a b c e o p q = let z : _≡_ {A = ℕ} 0 1 = cc in absurd (omega arith)
+counted-accepted (ok g end) a b c e o p q =
     let pe : end ≡ e = cc in
-    record { tree = g; read = rw pe; accepted = refl; coordinates = cc; number = cc }
+    record { tree = g; read = rw pe; accepted = refl; coordinates = cc; number = cc; other = cc }

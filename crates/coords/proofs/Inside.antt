@@ -1,14 +1,14 @@
 -- What is read lies after where it was read: 16 bytes at least for each coordinate, and a coordinate at least for each run. Assumes nothing.
 use mathlib.Core.Path.{_≡_, refl, sym, subst, _∙_}
-use mathlib.Core.Bool.{Bool, true, false, cond}
-use mathlib.Core.List.{List, [], _++_}
+use mathlib.Core.Bool.{Bool, true, false, cond, _||_}
+use mathlib.Core.List.{List, [], _∷_, _++_}
 use Prim.Native.Nat.{ℕ, zero, suc, _+_, _-_, _*_, _≤_}
 use native.Mathlib.Omega.{arith}
 use lib.Dec.{ltb}
 use lib.ListN.{length}
 use Rattle.fields.specs.Fields.{u32At}
 use Rattle.coords.specs.Walk.{Coordinate, Geometry, Parsed, ok, refused, mapParsed, andThen, strideOf, stride, times, listAt, Class, pointClass, lineClass, polygonClass, collectionClass, unknownClass, classOf, headerAt, geometryFrom, walkOf}
-use Rattle.coords.specs.Parts.{Run, coordinateCount, runsOf, walkedRuns}
+use Rattle.coords.specs.Parts.{Run, coordinateCount, runsOf, walkedRuns, run, isPoint, isFace, otherCount}
 use Rattle.coords.specs.Inner.{ParsedRuns, coordinatesRuns, lineRuns, walkRuns}
 use Rattle.coords.proofs.Ends.{AfterFive, header-after, walk-end}
 use Rattle.coords.proofs.Runs.{line-runs, coordinates-runs, rings-runs, members-runs, contentRunsAt, content-runs}
@@ -22,16 +22,16 @@ use Rattle.coords.proofs.Laws.{oneIf, counts-run}
 use Rattle.coords.proofs.Loops.{plus, prepend-counts}
 
 abbrev pub Inside : ℕ → Counts → Type 0
-Inside at (counts.Accepted a b e) = (16 * a + at ≤ e) × (b ≤ a)
+Inside at (counts.Accepted a b c e) = (16 * a + at ≤ e) × (b ≤ a)
 Inside at (counts.Refused k) = Unit
 
 later : (at at′ : ℕ) (o : Counts) → at ≤ at′ → Inside at′ o → Inside at o
-later at at′ (counts.Accepted a b e) h i = omega arith
+later at at′ (counts.Accepted a b c e) h i = omega arith
 later at at′ (counts.Refused k) h i = tt
 
-inside-plus : (at e a b : ℕ) (o : Counts) → 16 * a + at ≤ e → b ≤ a → Inside e o → Inside at (plus a b o)
-inside-plus at e a b (counts.Accepted x y e′) h g i = omega arith
-inside-plus at e a b (counts.Refused k) h g i = tt
+inside-plus : (at e a b c : ℕ) (o : Counts) → 16 * a + at ≤ e → b ≤ a → Inside e o → Inside at (plus a b c o)
+inside-plus at e a b c (counts.Accepted x y z e′) h g i = omega arith
+inside-plus at e a b c (counts.Refused k) h g i = tt
 
 wide-run : (z m : Bool) (n : ℕ) → 16 * n ≤ n * strideOf z m
 unfolding strideOf
@@ -71,7 +71,7 @@ module _ (f : ℕ → ParsedRuns) (each : (at : ℕ) → Inside at (runCounts (f
     where
       go : ((e : ℕ) → Inside e (runCounts (times _++_ [] f n e))) → (w : ParsedRuns) → Inside at (runCounts w) → Inside at (runCounts (andThen _++_ w (times _++_ [] f n)))
       go rest (refused k) i = tt
-      go rest (ok rs e) i = subst (λ (o : Counts). Inside at o) (sym (prepend-counts rs (times _++_ [] f n e))) (inside-plus at e (coordinateCount rs) (length rs) (runCounts (times _++_ [] f n e)) (i .0) (i .1) (rest e))
+      go rest (ok rs e) i = subst (λ (o : Counts). Inside at o) (sym (prepend-counts rs (times _++_ [] f n e))) (inside-plus at e (coordinateCount rs) (length rs) (otherCount rs) (runCounts (times _++_ [] f n e)) (i .0) (i .1) (rest e))
 
   inside-list : (little : Bool) (s : List ℕ) (at : ℕ) → Inside at (runCounts (listAt _++_ [] f little s at))
   unfolding listAt
@@ -99,9 +99,25 @@ unfolding walkOf runCounts mapParsed
 inside-walk zero s at = tt
 inside-walk (suc levels) s at = inside-from at levels s (inside-walk levels s) (headerAt s at) (header-after s at)
 
+others-few : (rs : List (Run Coordinate)) → otherCount rs ≤ length rs
+unfolding otherCount
+others-few [] = omega arith
+others-few (run kind cs ∷ rs) = go (isPoint kind || isFace kind) (others-few rs)
+  where
+    go : (b : Bool) → otherCount rs ≤ length rs → cond b 1 0 + otherCount rs ≤ suc (length rs)
+    go true h = omega arith
+    go false h = omega arith
+
+others-at-most : (w : ParsedRuns) (a b c e : ℕ) → runCounts w ≡ counts.Accepted a b c e → c ≤ b
+unfolding runCounts
+others-at-most (refused k) a b c e p = let z : _≡_ {A = ℕ} 0 1 = cc in absurd (omega arith)
+others-at-most (ok rs end) a b c e p = let pb : length rs ≡ b = cc in let pc : otherCount rs ≡ c = cc in omega (arith, others-few rs)
+
 -- what a reader's answer says of its numbers
-pub inside-of : (f : ℕ → ParsedRuns) (each : (at : ℕ) → Inside at (runCounts (f at))) (at a b e : ℕ) (o : Counts) → o ≡ runCounts (f at) → o ≡ counts.Accepted a b e → (16 * a + at ≤ e) × (b ≤ a)
-inside-of f each at a b e o p q = subst (λ (x : Counts). Inside at x) (sym p ∙ q) (each at)
+pub inside-of : (f : ℕ → ParsedRuns) (each : (at : ℕ) → Inside at (runCounts (f at))) (at a b c e : ℕ) (o : Counts) → o ≡ runCounts (f at) → o ≡ counts.Accepted a b c e → (16 * a + at ≤ e) × (b ≤ a) × (c ≤ b)
+inside-of f each at a b c e o p q =
+    let i : (16 * a + at ≤ e) × (b ≤ a) = subst (λ (x : Counts). Inside at x) (sym p ∙ q) (each at) in
+    (i .0, i .1, others-at-most (f at) a b c e (sym p ∙ q))
 
 -- 16 bytes at least for each coordinate, a coordinate at least for each run, all within the blob
 pub record CountsFit (s : List ℕ) (at end : ℕ) (rs : List (Run Coordinate)) : Type 0 where

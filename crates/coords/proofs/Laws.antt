@@ -9,7 +9,7 @@ use lib.Dec.{ltb}
 use lib.ListN.{length}
 use borrow.Author.Tests.{ltb-true, ltb-false, lt-ltb, le-ltb}
 use Rattle.coords.specs.Walk.{ok, strideOf, stride, coordinatesFrom}
-use Rattle.coords.specs.Parts.{nonEmptyRun, coordinateCount}
+use Rattle.coords.specs.Parts.{nonEmptyRun, coordinateCount, otherIf, otherCount}
 use Rattle.coords.specs.Inner.{coordinatesRuns}
 use Rattle.coords.proofs.Runs.{coordinates-runs}
 use Rattle.coords.specs.Counts.{runCounts}
@@ -44,17 +44,26 @@ abbrev pub oneIf : ℕ → ℕ
 oneIf zero = 0
 oneIf (suc n) = 1
 
-counts-ok : (h : WkbHeader) (s : List ℕ) (n at e : ℕ) → runCounts (ok (nonEmptyRun (h .kind) (coordinatesFrom h s n at)) e) ≡ counts.Accepted n (oneIf n) e
-unfolding runCounts coordinateCount nonEmptyRun coordinatesFrom
-counts-ok h s zero at e = refl
-counts-ok h s (suc n) at e = ap (λ (k : ℕ). counts.Accepted k 1 e) (add-zero _ ∙ ap suc (length-coordinates h s n (at + stride h)))
+-- 1 for a run of a point or face that is there
+abbrev pub otherOf : ℕ → ℕ → ℕ
+otherOf zero kind = 0
+otherOf (suc n) kind = otherIf kind
 
-pub counts-run : (h : WkbHeader) (s : List ℕ) (n at : ℕ) → ltb (length s) (at + n * stride h) ≡ false → runCounts (coordinatesRuns h s n at) ≡ counts.Accepted n (oneIf n) (at + n * stride h)
+counts-ok : (h : WkbHeader) (s : List ℕ) (n at e : ℕ) → runCounts (ok (nonEmptyRun (h .kind) (coordinatesFrom h s n at)) e) ≡ counts.Accepted n (oneIf n) (otherOf n (h .kind)) e
+unfolding runCounts coordinateCount otherCount nonEmptyRun coordinatesFrom
+counts-ok h s zero at e = refl
+counts-ok h s (suc n) at e = rw (length-coordinates h s n (at + stride h)) (simp add-zero)
+
+pub counts-run : (h : WkbHeader) (s : List ℕ) (n at : ℕ) → ltb (length s) (at + n * stride h) ≡ false → runCounts (coordinatesRuns h s n at) ≡ counts.Accepted n (oneIf n) (otherOf n (h .kind)) (at + n * stride h)
 counts-run h s n at e = ap runCounts (coordinates-runs h s n at) ∙ rw e (counts-ok h s n at (at + n * stride h))
 
 pub one : (n : ℕ) → (n ≡ 0 → ⊥) → oneIf n ≡ 1
 one zero f = absurd (f refl)
 one (suc n) f = refl
+
+pub other : (n kind : ℕ) → (n ≡ 0 → ⊥) → otherOf n kind ≡ otherIf kind
+other zero kind f = absurd (f refl)
+other (suc n) kind f = refl
 
 -- an XY coordinate is the shortest
 pub wide : (z m : Bool) → 16 ≤ strideOf z m

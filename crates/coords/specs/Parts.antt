@@ -66,6 +66,15 @@ isLine kind = eqb kind 2
 abbrev pub isFace : ℕ → Bool
 isFace kind = eqb kind 3 || eqb kind 17
 
+-- 1 for the run of a point or face
+abbrev pub otherIf : ℕ → ℕ
+otherIf kind = cond (isPoint kind || isFace kind) 1 0
+
+-- how many runs are points or faces, and so no lines (refusal 14)
+unfoldable pub otherCount : {A : Type 0} → List (Run A) → ℕ
+otherCount [] = 0
+otherCount (run kind cs ∷ rs) = otherIf kind + otherCount rs
+
 -- the coordinates of the point runs
 unfoldable pub pointVertices : {A : Type 0} → List (Run A) → List A
 pointVertices [] = []

@@ -5,7 +5,7 @@ ghost use Prim.Native.Nat.{_+_};
 ghost use lib.Dec.{ltb};
 ghost use Rattle.coords.specs.Walk.{mapParsed, zOf, mOf, headerAt, strideOf, ringsAt, allLevels, walkOf};
 ghost use Rattle.coords.specs.Inner.{coordinatesRuns, lineRuns, membersAtRuns};
-ghost use Rattle.coords.specs.Parts.{ringsRuns};
+ghost use Rattle.coords.specs.Parts.{ringsRuns, otherIf};
 ghost use Rattle.coords.specs.Counts.{runCounts, countsOf};
 
 // What the header of a geometry says; its content starts at body.
@@ -22,11 +22,13 @@ pub enum ParsedHeader {
     Refused(u8),
 }
 
-// Coordinates, runs with at least one coordinate, and the position after the geometry; or the number of the refusal.
+// Coordinates, runs with at least one coordinate, those of them that are points or faces, and the position after the
+// geometry; or the number of the refusal.
 pub enum Counts {
     Accepted {
         coords: usize,
         runs: usize,
+        others: usize,
         end: usize,
     },
     Refused(u8),
@@ -119,6 +121,18 @@ pub fn stride_of(z: bool, m: bool) -> usize
     }
 }
 
+// 1 for the run of a point or face.
+fn other_if(kind: u32) -> usize
+    ensures { λ r. ⌜ r ≡ otherIf kind ⌝ }
+{
+    match kind {
+        1 => 1,
+        3 => 1,
+        17 => 1,
+        _ => 0,
+    }
+}
+
 // A run of n coordinates.
 fn count_run(s: &[u8], h: WkbHeader, n: u32, at: usize) -> Counts
     ensures { λ r. ⌜ r ≡ runCounts (coordinatesRuns h (now (s .entry)) n at) ⌝ }
@@ -133,12 +147,14 @@ fn count_run(s: &[u8], h: WkbHeader, n: u32, at: usize) -> Counts
         Counts::Accepted {
             coords: 0,
             runs: 0,
+            others: 0,
             end,
         }
     } else {
         Counts::Accepted {
             coords: count,
             runs: 1,
+            others: other_if(h.kind),
             end,
         }
     }
@@ -165,6 +181,7 @@ pub fn count_rings(s: &[u8], h: WkbHeader, at: usize) -> Counts
     let mut left = u32_at(s, at, h.little);
     let mut coords: usize = 0;
     let mut runs: usize = 0;
+    let mut others: usize = 0;
     let mut next = at + 4;
     while 0 < left {
         match count_line(s, h, next) {
@@ -174,10 +191,12 @@ pub fn count_rings(s: &[u8], h: WkbHeader, at: usize) -> Counts
             Counts::Accepted {
                 coords: n,
                 runs: r,
+                others: o,
                 end: e,
             } => {
                 coords += n;
                 runs += r;
+                others += o;
                 next = e;
             }
         }
@@ -186,6 +205,7 @@ pub fn count_rings(s: &[u8], h: WkbHeader, at: usize) -> Counts
     Counts::Accepted {
         coords,
         runs,
+        others,
         end: next,
     }
 }
@@ -200,6 +220,7 @@ fn count_members(s: &[u8], little: bool, at: usize, levels: usize) -> Counts
     let mut left = u32_at(s, at, little);
     let mut coords: usize = 0;
     let mut runs: usize = 0;
+    let mut others: usize = 0;
     let mut next = at + 4;
     while 0 < left {
         match count_geometry(s, next, levels) {
@@ -209,10 +230,12 @@ fn count_members(s: &[u8], little: bool, at: usize, levels: usize) -> Counts
             Counts::Accepted {
                 coords: n,
                 runs: r,
+                others: o,
                 end: e,
             } => {
                 coords += n;
                 runs += r;
+                others += o;
                 next = e;
             }
         }
@@ -221,6 +244,7 @@ fn count_members(s: &[u8], little: bool, at: usize, levels: usize) -> Counts
     Counts::Accepted {
         coords,
         runs,
+        others,
         end: next,
     }
 }

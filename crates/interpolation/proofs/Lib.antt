@@ -2,8 +2,6 @@
 pub mod Lines
 pub mod Turns
 pub mod Passes
-pub mod Scan
-pub mod Looks
 pub mod Cases
 pub mod Order
 pub mod Outcome

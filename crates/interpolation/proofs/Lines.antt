@@ -4,19 +4,24 @@ use mathlib.Core.Logic.{_⊎_, ⊎-elim}
 use mathlib.Core.Bool.{Bool, true, false, cond, _||_, true≢false}
 use mathlib.Core.List.{List, [], _∷_, _++_, map}
 use Prim.Native.Nat.{ℕ, suc, _+_, _<_, _≤_}
+use native.Mathlib.Nat.{zero-add}
 use native.Mathlib.Omega.{arith}
-use lib.Dec.{eqb}
+use lib.Dec.{ltb, eqb}
 use lib.ListN.{length, length-append}
-use borrow.Author.Tests.{ne-eqb, eqb-false}
-use Rattle.coords.specs.Walk.{Coordinate, Geometry, Parsed, ok, refused, walkOf, allLevels}
-use Rattle.coords.specs.Parts.{Run, run, mapRuns, walkedRuns, coordinateCount, isPoint, isLine, isFace}
+use borrow.Author.Tests.{ne-eqb, eqb-true, eqb-false, lt-ltb}
+use Rattle.gpb.specs.Header.{geometryStart}
+use Rattle.coords.specs.Walk.{Coordinate, Geometry, Parsed, ok, refused, allLevels}
+use Rattle.coords.specs.Parts.{Run, run, mapRuns, walkedRuns, coordinateCount, otherCount, isPoint, isLine, isFace}
 use Rattle.coords.proofs.Parts.{map-length}
 use Rattle.coords.proofs.Each.{Each}
 use Rattle.coords.proofs.EachRun.{RunKind}
 use Rattle.coords.proofs.RunFacts.{HasRunKind, walk-kinds, HasSome, walk-runs-non-empty}
 use Rattle.interpolation.specs.Interpolation.{segmentsFrom, segmentsOfLine, segmentsOf}
 use Rattle.interpolation.specs.Operation.{hasPointOrFace, isNoLine}
-use Rattle.interpolation.specs.Inner.{Counted}
+use Rattle.blob.specs.Blob.{walkOfBlob, runsOfBlob}
+use Rattle.blob.specs.Inner.{operandOf}
+use Rattle.blob.specs.declared.Operand.{Operand}
+use Rattle.interpolation.specs.Inner.{noLineBy}
 
 -- ---- how many
 
@@ -90,28 +95,38 @@ or-true : (b : Bool) → true ≡ (b || true)
 or-true true = refl
 or-true false = refl
 
-module _ (s : List ℕ) (at coords runs : ℕ) (counted : Counted (walkOf allLevels s at) coords runs) where
-  facts : Each HasSome (walkedRuns (walkOf allLevels s at)) × Each HasRunKind (walkedRuns (walkOf allLevels s at))
+has-others : {A : Type 0} (rs : List (Run A)) → hasPointOrFace rs ≡ ltb 0 (otherCount rs)
+unfolding hasPointOrFace otherCount
+has-others [] = refl
+has-others (run k cs ∷ rs) = go (isPoint k || isFace k) (has-others rs)
+  where
+    go : (b : Bool) → hasPointOrFace rs ≡ ltb 0 (otherCount rs) → (b || hasPointOrFace rs) ≡ ltb 0 (cond b 1 0 + otherCount rs)
+    go true h = sym (lt-ltb 0 (1 + otherCount rs) (omega arith))
+    go false h = h ∙ rw (zero-add (otherCount rs))
+
+-- by the numbers of an operand
+module _ (s : List ℕ) (v : Operand) (own : v ≡ operandOf s) where
+  facts : Each HasSome (runsOfBlob s) × Each HasRunKind (runsOfBlob s)
   unfolding walkedRuns
-  facts = go (walkOf allLevels s at) refl
+  facts = go (walkOfBlob s) refl
     where
-      go : (w : Parsed Geometry) → walkOf allLevels s at ≡ w → Each HasSome (walkedRuns w) × Each HasRunKind (walkedRuns w)
-      go (ok g end) e = (walk-runs-non-empty allLevels s at g end e, walk-kinds allLevels s at g end e)
+      go : (w : Parsed Geometry) → walkOfBlob s ≡ w → Each HasSome (walkedRuns w) × Each HasRunKind (walkedRuns w)
+      go (ok g end) e = (walk-runs-non-empty allLevels s (geometryStart s) g end e, walk-kinds allLevels s (geometryStart s) g end e)
       go (refused k) e = (tt, tt)
 
-  -- one coordinate for each run: no segment
-  pub by-counts : coords ≡ runs → true ≡ isNoLine (walkedRuns (walkOf allLevels s at))
+  by-numbers : (b : Bool) → eqb (coordinateCount (runsOfBlob s)) (length (runsOfBlob s)) ≡ b → isNoLine (runsOfBlob s) ≡ (b || ltb 0 (otherCount (runsOfBlob s)))
   unfolding isNoLine
-  by-counts e =
-      let rs = walkedRuns (walkOf allLevels s at) in
-      let z : length (segmentsOf rs) ≡ 0 = omega (arith, at-most rs (facts .0), counted .coordinates, counted .number, e) in
-      rw z (or-true (hasPointOrFace rs))
-
-  -- otherwise a point or face decides
-  pub by-scan : (coords ≡ runs → ⊥) → hasPointOrFace (walkedRuns (walkOf allLevels s at)) ≡ isNoLine (walkedRuns (walkOf allLevels s at))
-  unfolding isNoLine
-  by-scan ne = go (hasPointOrFace (walkedRuns (walkOf allLevels s at))) refl
+  by-numbers true e =
+      -- one coordinate for each run: no segment
+      let z : length (segmentsOf (runsOfBlob s)) ≡ 0 = omega (arith, at-most (runsOfBlob s) (facts .0), eqb-true (coordinateCount (runsOfBlob s)) (length (runsOfBlob s)) e) in
+      rw z (sym (or-true (hasPointOrFace (runsOfBlob s))))
+  by-numbers false e = go (hasPointOrFace (runsOfBlob s)) refl ∙ has-others (runsOfBlob s)
     where
-      go : (b : Bool) → hasPointOrFace (walkedRuns (walkOf allLevels s at)) ≡ b → b ≡ (b || eqb (length (segmentsOf (walkedRuns (walkOf allLevels s at)))) 0)
-      go true e = refl
-      go false e = sym (ne-eqb (length (segmentsOf (walkedRuns (walkOf allLevels s at)))) 0 (λ z. ne (omega (arith, z, exactly (walkedRuns (walkOf allLevels s at)) (facts .0) (facts .1) e, counted .coordinates, counted .number))))
+      -- otherwise a point or face decides
+      go : (b : Bool) → hasPointOrFace (runsOfBlob s) ≡ b → (hasPointOrFace (runsOfBlob s) || eqb (length (segmentsOf (runsOfBlob s))) 0) ≡ hasPointOrFace (runsOfBlob s)
+      go true h = rw h
+      go false h =
+          rw h (ne-eqb (length (segmentsOf (runsOfBlob s))) 0 (λ z. eqb-false (coordinateCount (runsOfBlob s)) (length (runsOfBlob s)) e (omega (arith, z, exactly (runsOfBlob s) (facts .0) (facts .1) h))))
+
+  pub no-line-is : isNoLine (runsOfBlob s) ≡ noLineBy (v .coords) (v .runs) (v .others)
+  no-line-is = rw own (by-numbers (eqb (coordinateCount (runsOfBlob s)) (length (runsOfBlob s))) refl)

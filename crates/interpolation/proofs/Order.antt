@@ -11,27 +11,22 @@ use lib.Ieee.{Float}
 use borrow.Author.Tests.{lt-ltb, le-ltb, ltb-false}
 use Rattle.refusals.specs.Checks.{Check, check, firstOf, onSide}
 use Rattle.refusals.specs.declared.Refusal.{Refusal}
-use Rattle.refusals.proofs.Checks.{given-exactly}
 use Rattle.refusals.proofs.Sides.{sided, first-on-side, first-of-two, first-of-one, none-of-both}
-use Rattle.gpb.specs.Header.{geometryStart, sridOf, headerChecks, refusedOr, headerOf}
-use Rattle.gpb.specs.declared.Header.{Header}
-use Rattle.gpb.specs.declared.Header.the-variants as header
-use Rattle.gpb.proofs.HeaderLaws.{refused-exactly}
-use Rattle.coords.specs.Walk.{walkOf, allLevels}
-use Rattle.coords.specs.Parts.{coordinateCount, walkedRuns}
+use Rattle.gpb.specs.Header.{geometryStart, sridOf, headerChecks}
+use Rattle.coords.specs.Parts.{coordinateCount}
 use Rattle.coords.specs.Refusals.{walkChecks}
-use Rattle.coords.specs.Counts.{countsOf}
-use Rattle.coords.specs.declared.Counts.{Counts}
-use Rattle.coords.specs.declared.Counts.the-variants as counts
-use Rattle.coords.proofs.Refusals.{refused-is-given, accepted-gives-none, none-given-is-accepted}
-use Rattle.coords.proofs.Counted.{counted-refused, counted-accepted}
+use Rattle.coords.proofs.Refusals.{none-given-is-accepted}
 use Rattle.workspace.specs.Workspace.{tooSmall, tooSmallFor}
 use Rattle.workspace.proofs.Laws.{not-too-small}
-use Rattle.blob.specs.Blob.{walkOfBlob, runsOfBlob}
+use Rattle.blob.specs.Blob.{runsOfBlob}
+use Rattle.blob.specs.Inner.{operandOf}
+use Rattle.blob.specs.declared.Operand.{Operand}
+use Rattle.blob.proofs.Steps.{Given}
 use Rattle.interpolation.specs.Operation.{outOfRange, isNoLine, pointBytes, noSide, interpolationChecks}
-use Rattle.interpolation.specs.Inner.{Counted, checkedBy, checkedOf, Ready}
+use Rattle.interpolation.specs.Inner.{noLineBy, checkedBy, checkedOf, Ready}
 use Rattle.interpolation.specs.declared.Checked.{Checked}
 use Rattle.interpolation.specs.declared.Checked.the-variants as checked
+use Rattle.interpolation.proofs.Lines.{no-line-is}
 
 -- ---- the first that holds, part by part
 
@@ -74,76 +69,46 @@ module _ (s : List ℕ) (fraction : Float) (floats numbers output : ℕ) where
     unfolding checkedBy when orElse
     by-fraction e = answer-is (some (noSide 2)) (rw (← r, e))
 
-    module _ (in-range : range ≡ false) (h : Header) (p : h ≡ headerOf s) where
-      pub by-header : (k : ℕ) → h ≡ header.Refused k → checked.Refused (sided 1 k) ≡ checkedOf s fraction floats numbers output
+    -- the fraction is in range: the header
+    module _ (in-range : range ≡ false) where
+      pub by-header : (x : Refusal) → Given (firstOf (headerChecks s)) 1 x → checked.Refused x ≡ checkedOf s fraction floats numbers output
       unfolding checkedBy when given orElse
-      by-header k q = answer-is (some (sided 1 k)) (rw (← r, in-range, given-exactly (headerChecks s) k .1 (refused-exactly s k .0 (sym p ∙ q))))
+      by-header x g = rw (g .is) (answer-is (some (sided 1 (g .number))) (rw (← r, in-range, g .holds)))
 
--- ---- the header
+      -- the header is read: the walk
+      module _ (h : firstOf (headerChecks s) ≡ none) where
+        pub by-walk : (x : Refusal) → Given (firstOf (walkChecks s (geometryStart s))) 1 x → checked.Refused x ≡ checkedOf s fraction floats numbers output
+        unfolding checkedBy when given orElse
+        by-walk x g = rw (g .is) (answer-is (some (sided 1 (g .number))) (rw (← r, in-range, h, g .holds)))
 
-pub record HeaderRead (s : List ℕ) (at srid : ℕ) : Type 0 where
-  pub none-holds : firstOf (headerChecks s) ≡ none
-  pub start : at ≡ geometryStart s
-  pub own : srid ≡ sridOf s
+        -- the walk is accepted: 14
+        module _ (v : Operand) (w : (firstOf (walkChecks s (geometryStart s)) ≡ none) × (v ≡ operandOf s)) (line : Bool) (l : line ≡ noLineBy (v .coords) (v .runs) (v .others)) where
+          line-is : isNoLine (runsOfBlob s) ≡ line
+          line-is = no-line-is s v (w .1) ∙ sym l
 
-pub header-read : (s : List ℕ) (at code srid : ℕ) (o : Header) → o ≡ headerOf s → o ≡ header.Found at code srid → HeaderRead s at srid
-unfolding headerOf refusedOr
-header-read s at code srid o p q = go (firstOf (headerChecks s)) refl
-  where
-    go : (x : Option ℕ) → firstOf (headerChecks s) ≡ x → HeaderRead s at srid
-    go (some j) e = let i : header.Refused j ≡ header.Found at code srid = sym (p ∙ ap (λ (y : Option ℕ). refusedOr y s) e) ∙ q in let z : _≡_ {A = ℕ} 0 1 = cc in absurd (omega arith)
-    go none e =
-        let i : header.Found (geometryStart s) _ (sridOf s) ≡ header.Found at code srid = sym (p ∙ ap (λ (y : Option ℕ). refusedOr y s) e) ∙ q in
-        record { none-holds = e; start = cc; own = cc }
+          small-is : tooSmall (runsOfBlob s) floats numbers ≡ tooSmallFor (v .coords) (v .runs) floats numbers
+          small-is = rw (w .1)
 
--- ---- the walk
+          pub by-line : line ≡ true → checked.Refused (sided 1 14) ≡ checkedOf s fraction floats numbers output
+          unfolding checkedBy when given orElse after-walk
+          by-line e = answer-is (some (sided 1 14)) (rw (← r, in-range, h, w .0, line-is, e))
 
-pub counted-at : (s : List ℕ) (at coords runs end : ℕ) (o : Counts) → o ≡ countsOf (walkOf allLevels s at) → o ≡ counts.Accepted coords runs end → Counted (walkOf allLevels s at) coords runs
-counted-at s at coords runs end o p q =
-    let c = counted-accepted (walkOf allLevels s at) coords runs end o p q in
-    record { accepted = c .accepted; coordinates = c .coordinates; number = c .number }
+          -- then 15 and 16
+          module _ (is-line : line ≡ false) where
+            pub by-room : (x : Refusal) → (tooSmallFor (v .coords) (v .runs) floats numbers ≡ true) × (x ≡ sided 1 15) → checked.Refused x ≡ checkedOf s fraction floats numbers output
+            unfolding checkedBy when given orElse after-walk
+            by-room x t = rw (t .1) (answer-is (some (sided 1 15)) (rw (← r, in-range, h, w .0, line-is, is-line, small-is, t .0)))
 
--- the fraction is in range and the header is read
-module _ (s : List ℕ) (fraction : Float) (floats numbers output : ℕ) (range : Bool) (r : range ≡ outOfRange fraction) (in-range : range ≡ false) (at srid : ℕ) (h : HeaderRead s at srid) (o : Counts) (p : o ≡ countsOf (walkOf allLevels s at)) where
-  walked : o ≡ countsOf (walkOfBlob s)
-  walked = p ∙ ap (λ (i : ℕ). countsOf (walkOf allLevels s i)) (h .start)
+            module _ (fits : tooSmallFor (v .coords) (v .runs) floats numbers ≡ false) where
+              pub by-output : output < pointBytes → checked.Refused (noSide 16) ≡ checkedOf s fraction floats numbers output
+              unfolding checkedBy when given orElse after-walk
+              by-output e = answer-is (some (noSide 16)) (rw (← r, in-range, h, w .0, line-is, is-line, small-is, fits, lt-ltb output pointBytes e))
 
-  pub by-walk : (k : ℕ) → o ≡ counts.Refused k → checked.Refused (sided 1 k) ≡ checkedOf s fraction floats numbers output
-  unfolding checkedBy when given orElse
-  by-walk k q =
-      answer-is s fraction floats numbers output (some (sided 1 k))
-      (rw (← r, in-range, h .none-holds, refused-is-given s (geometryStart s) k (counted-refused (walkOfBlob s) k o walked q)))
-
-  module _ (coords runs end : ℕ) (q : o ≡ counts.Accepted coords runs end) (line : Bool) (l : line ≡ isNoLine (walkedRuns (walkOf allLevels s at))) where
-    none-of-walk : firstOf (walkChecks s (geometryStart s)) ≡ none
-    none-of-walk = let c = counted-accepted (walkOfBlob s) coords runs end o walked q in accepted-gives-none s (geometryStart s) (c .tree) end (c .read)
-
-    line-is : isNoLine (runsOfBlob s) ≡ line
-    line-is = sym (l ∙ ap (λ (i : ℕ). isNoLine (walkedRuns (walkOf allLevels s i))) (h .start))
-
-    pub by-line : line ≡ true → checked.Refused (sided 1 14) ≡ checkedOf s fraction floats numbers output
-    unfolding checkedBy when given orElse after-walk
-    by-line e = answer-is s fraction floats numbers output (some (sided 1 14)) (rw (← r, in-range, h .none-holds, none-of-walk, line-is, e))
-
-    module _ (is-line : line ≡ false) (small : Bool) (t : small ≡ tooSmallFor coords runs floats numbers) where
-      small-is : tooSmall (runsOfBlob s) floats numbers ≡ small
-      small-is = let c = counted-accepted (walkOfBlob s) coords runs end o walked q in sym (t ∙ rw (c .coordinates, c .number))
-
-      pub by-room : small ≡ true → checked.Refused (sided 1 15) ≡ checkedOf s fraction floats numbers output
-      unfolding checkedBy when given orElse after-walk
-      by-room e = answer-is s fraction floats numbers output (some (sided 1 15)) (rw (← r, in-range, h .none-holds, none-of-walk, line-is, is-line, small-is, e))
-
-      module _ (fits : small ≡ false) where
-        pub by-output : output < pointBytes → checked.Refused (noSide 16) ≡ checkedOf s fraction floats numbers output
-        unfolding checkedBy when given orElse after-walk
-        by-output e = answer-is s fraction floats numbers output (some (noSide 16)) (rw (← r, in-range, h .none-holds, none-of-walk, line-is, is-line, small-is, fits, lt-ltb output pointBytes e))
-
-        pub by-none : pointBytes ≤ output → checked.Accepted at coords runs srid ≡ checkedOf s fraction floats numbers output
-        unfolding checkedBy when given orElse after-walk
-        by-none e =
-            let c = counted-accepted (walkOfBlob s) coords runs end o walked q in
-            rw (h .start, h .own, c .coordinates, c .number)
-            (answer-is s fraction floats numbers output none (rw (← r, in-range, h .none-holds, none-of-walk, line-is, is-line, small-is, fits, le-ltb output pointBytes e)))
+              pub by-none : pointBytes ≤ output → checked.Accepted (v .at) (v .coords) (v .runs) (v .srid) ≡ checkedOf s fraction floats numbers output
+              unfolding checkedBy when given orElse after-walk
+              by-none e =
+                  let none-is = answer-is none (rw (← r, in-range, h, w .0, line-is, is-line, small-is, fits, le-ltb output pointBytes e)) in
+                  rw (w .1) none-is
 
 -- ---- no check holds: none of any part
 

@@ -1,38 +1,30 @@
 // The point at a fraction of a line's length: document 01's interpolation, for every input.
 // Undecided in its contracts is only the payload, sign included, of a NaN in the workspace; output bytes are wholly decided.
-use coords::Counts;
-use coords::ParsedHeader;
-use gpb::Header;
+use blob::HeaderRead;
+use blob::Lent;
+use blob::Operand;
+use blob::OperandRead;
+use blob::RoomChecked;
 use primitives::Point;
 use refusals::Refusal;
 use workspace::FLOATS_PER_COORDINATE;
 use workspace::NUMBERS_PER_RUN;
 ghost use mathlib.Core.Path.{_≡_};
-ghost use mathlib.Core.Bool.{true, false};
+ghost use mathlib.Core.Bool.{false};
 ghost use mathlib.Core.List.{foldl};
 ghost use mathlib.Core.Option.{some};
 ghost use Prim.Native.Nat.{_+_, _*_, _≤_, _<_};
 ghost use lib.ListN.{length};
-ghost use Rattle.coords.specs.Walk.{walkOf, allLevels};
-ghost use Rattle.coords.specs.Parts.{walkedRuns};
-ghost use Rattle.coords.specs.Refusals.{isAccepted};
 ghost use Rattle.workspace.specs.Workspace.{floatsPerCoordinate};
 ghost use Rattle.parts.specs.Stored.{pointsFrom, storedRuns, Laid};
 ghost use Rattle.interpolation.specs.Interpolation.{segment, segmentsOfLine, segmentsOf, lengthOf, partOf, pointOn, interpolatedPoint};
-ghost use Rattle.interpolation.specs.Operation.{outOfRange, hasPointOrFace, isNoLine, reportOf, outcome, interpolationOutcome};
-ghost use Rattle.interpolation.specs.Inner.{SaysOf, OwnRuns, Counted, checkedOf, measuring, searching, notMeasured, notSearched, Ready, PointRead};
+ghost use Rattle.interpolation.specs.Operation.{outOfRange, reportOf, outcome, interpolationOutcome};
+ghost use Rattle.interpolation.specs.Inner.{noLineBy, checkedOf, measuring, searching, notMeasured, notSearched, Ready, PointRead};
 
 // A point blob in the output, or a refusal.
 pub enum Interpolated {
     Blob,
     Refused(Refusal),
-}
-
-// What a geometry holds: a point or face; neither, and where it ends; or members, and where the first is.
-enum Content {
-    PointOrFace,
-    Neither { end: usize },
-    Members { count: u32, first: usize },
 }
 
 // A call that refuses nothing: where the geometry starts, its coordinates and runs, the SRID's bits; or the refusal.
@@ -79,83 +71,16 @@ fn out_of_range(fraction: f64) -> bool
     }
 }
 
-// A geometry that is no collection. The walk reads it, so that it is not refused.
-fn own_content(s: &[u8], at: usize, kind: u32) -> Content
-    requires { ⌜ OwnRuns (now s) at kind ⌝ }
-    ensures { λ r. ⌜ SaysOf (now (s .entry)) at r ⌝ }
-{
-    match coords::count(s, at) {
-        Counts::Refused(_) => Content::PointOrFace,
-        Counts::Accepted { coords, runs, end } => {
-            if kind == LINE {
-                return Content::Neither { end };
-            }
-            if runs == 0 {
-                Content::Neither { end }
-            } else {
-                Content::PointOrFace
-            }
-        }
-    }
-}
-
-// A geometry that the walk reads, so that its header is not refused.
-fn content_at(s: &[u8], at: usize) -> Content
-    requires { ⌜ isAccepted (walkOf allLevels (now s) at) ≡ true ⌝ }
-    ensures { λ r. ⌜ SaysOf (now (s .entry)) at r ⌝ }
-{
-    match coords::read_header(s, at) {
-        ParsedHeader::Refused(_) => Content::PointOrFace,
-        ParsedHeader::Read(h) => {
-            let kind = h.kind;
-            let body = h.body;
-            if parts::run_class(kind) == 0 {
-                Content::Members {
-                    count: fields::u32_at(s, body, h.little),
-                    first: body + 4,
-                }
-            } else {
-                own_content(s, at, kind)
-            }
-        }
-    }
-}
-
-// Whether a geometry that the walk reads has a point or face. Members lie behind their collection's header, so all geometries are met in a row.
-fn has_point_or_face(s: &[u8], at: usize) -> bool
-    requires { ⌜ isAccepted (walkOf allLevels (now s) at) ≡ true ⌝ }
-    ensures { λ r. ⌜ r ≡ hasPointOrFace (walkedRuns (walkOf allLevels (now (s .entry)) at)) ⌝ }
-{
-    let mut left: usize = 1;
-    let mut next = at;
-    while 0 < left {
-        match content_at(s, next) {
-            Content::PointOrFace => {
-                return true;
-            }
-            Content::Neither { end } => {
-                left -= 1;
-                next = end;
-            }
-            Content::Members { count, first } => {
-                let n = count as usize;
-                left = left - 1 + n;
-                next = first;
-            }
-        }
-    }
-    false
-}
-
 // 14: a point or face, or no segment. Runs of one coordinate each have no segment.
-fn is_no_line(s: &[u8], at: usize, coords: usize, runs: usize) -> bool
-    requires { ⌜ Counted (walkOf allLevels (now s) at) coords runs ⌝ }
-    ensures { λ r. ⌜ r ≡ isNoLine (walkedRuns (walkOf allLevels (now (s .entry)) at)) ⌝ }
+fn is_no_line(o: Operand) -> bool
+    ensures { λ r. ⌜ r ≡ noLineBy (o .coords) (o .runs) (o .others) ⌝ }
 {
+    let coords = o.coords;
+    let runs = o.runs;
     if coords == runs {
         return true;
     }
-    has_point_or_face(s, at)
+    0 < o.others
 }
 
 // Every check in order; floats, numbers and output are the lengths lent.
@@ -165,34 +90,34 @@ fn check(s: &[u8], fraction: f64, floats: usize, numbers: usize, output: usize) 
     if out_of_range(fraction) {
         return Checked::Refused(Refusal { number: 2, side: 0 });
     }
-    match gpb::read_header(s) {
-        Header::Refused(number) => Checked::Refused(Refusal { number, side: 1 }),
-        Header::Found { at, code, srid } => match coords::count(s, at) {
-            Counts::Refused(number) => Checked::Refused(Refusal { number, side: 1 }),
-            Counts::Accepted { coords, runs, end } => {
-                if is_no_line(s, at, coords, runs) {
+    match blob::read_header(s, 1) {
+        HeaderRead::Refused(refusal) => Checked::Refused(refusal),
+        HeaderRead::Found(top) => match blob::read_walk(s, top, 1) {
+            OperandRead::Refused(refusal) => Checked::Refused(refusal),
+            OperandRead::Read(o) => {
+                if is_no_line(o) {
                     return Checked::Refused(Refusal {
                         number: 14,
                         side: 1,
                     });
                 }
-                if workspace::too_small(coords, runs, floats, numbers) {
-                    return Checked::Refused(Refusal {
-                        number: 15,
-                        side: 1,
-                    });
-                }
-                if output < POINT_BYTES {
-                    return Checked::Refused(Refusal {
-                        number: 16,
-                        side: 0,
-                    });
-                }
-                Checked::Accepted {
-                    at,
-                    coords,
-                    runs,
-                    srid,
+                let lent = Lent { floats, numbers };
+                match blob::check_room(o, lent, 1) {
+                    RoomChecked::Refused(refusal) => Checked::Refused(refusal),
+                    RoomChecked::Enough => {
+                        if output < POINT_BYTES {
+                            return Checked::Refused(Refusal {
+                                number: 16,
+                                side: 0,
+                            });
+                        }
+                        Checked::Accepted {
+                            at: o.at,
+                            coords: o.coords,
+                            runs: o.runs,
+                            srid: o.srid,
+                        }
+                    }
                 }
             }
         },

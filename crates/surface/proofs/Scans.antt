@@ -20,7 +20,7 @@ module _ {A : Type 0} (f : A → List (Run Coordinate)) where
   counted-refused at k (refused j) o p q = let e : j ≡ k = cc in ap scanned.Refused e
   counted-refused at k (ok a end) o p q = let z : _≡_ {A = ℕ} 0 1 = cc in absurd (omega arith)
 
-  pub counted-ends : (at a b e : ℕ) (w : Parsed A) (o : Counts) → o ≡ runCounts (mapParsed f w) → o ≡ counts.Accepted a b e → endOf (rangeFrom at w) ≡ scanned.Ends e
+  pub counted-ends : (at a b e : ℕ) {c : ℕ} (w : Parsed A) (o : Counts) → o ≡ runCounts (mapParsed f w) → o ≡ counts.Accepted a b c e → endOf (rangeFrom at w) ≡ scanned.Ends e
   unfolding runCounts mapParsed rangeFrom endOf
   counted-ends at a b e (refused j) o p q = let z : _≡_ {A = ℕ} 0 1 = cc in absurd (omega arith)
   counted-ends at a b e (ok x end) o p q = let y : end ≡ e = cc in ap scanned.Ends y

@@ -71,7 +71,12 @@ fn scan_patch(s: &[u8], at: usize) -> Scanned
         ParsedHeader::Refused(k) => Scanned::Refused(k),
         ParsedHeader::Read(h) => match coords::count_rings(s, h, h.body) {
             Counts::Refused(k) => Scanned::Refused(k),
-            Counts::Accepted { coords, runs, end } => Scanned::Ends(end),
+            Counts::Accepted {
+                coords,
+                runs,
+                others,
+                end,
+            } => Scanned::Ends(end),
         },
     }
 }

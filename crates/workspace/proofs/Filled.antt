@@ -10,16 +10,10 @@ use Rattle.fields.proofs.Stores.{sets-front}
 use Rattle.coords.specs.Walk.{Geometry, Parsed, ok, refused, mapParsed}
 use Rattle.coords.specs.Parts.{runsOf, walkedRuns}
 use Rattle.coords.specs.Refusals.{isAccepted}
-use Rattle.coords.proofs.Counted.{Counted}
 use Rattle.workspace.specs.Workspace.{floatsPerCoordinate, numbersPerRun, floatsOf, tableOf, floatsNeeded, numbersNeeded, floatsWith, tableWith, Room, Written}
 use Rattle.workspace.specs.Inner.{floatsAfter, tableAfter, Ready, Filled}
 use Rattle.workspace.specs.declared.Progress.{Progress}
 use Rattle.workspace.proofs.Contents.{length-floats, length-table}
-
--- room for what was counted
-pub counted-room : (w : Parsed Geometry) (coords runs end floats numbers : ℕ) → Counted w coords runs end → floatsPerCoordinate * coords ≤ floats → numbersPerRun * runs ≤ numbers → Room w floats numbers
-counted-room w coords runs end floats numbers c h g =
-    record { accepted = c .accepted; for-floats = omega (arith, h, c .coordinates); for-numbers = omega (arith, g, c .number) }
 
 -- nothing is written yet
 abbrev pub atStart : ℕ → Progress

@@ -17,7 +17,7 @@ returns : tie.Need-returns
 returns c = walk-refused (c .before .before .before .before .before .args .s .now) _ _ (c .before .before .before .before .before .pre) _ (c .before .before .before .count .ensures) _ ((c .before .number .given) .1)
 
 returns-2 : tie.Need-returns-2
-returns-2 c = walk-read (c .before .before .before .before .before .args .s .now) _ _ (c .before .before .before .before .before .pre) _ (c .before .before .before .count .ensures) _ _ _ ((c .before .coords .given) .1)
+returns-2 c = walk-read (c .before .before .before .before .before .args .s .now) _ _ (c .before .before .before .before .before .pre) _ (c .before .before .before .count .ensures) _ _ _ _ ((c .before .coords .given) .1)
 
 pub read-walk-spec : {M : Type 1} → statement M
 read-walk-spec =

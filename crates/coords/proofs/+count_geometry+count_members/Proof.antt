@@ -313,11 +313,11 @@ unfolding contentRunsAt runCounts
 count-geometry-returns-9 t c = sym (ap runCounts (geometry-is (c .before .before .before .before .before .before .before .before .before .before .before .args .levels) (c .before .before .before .before .before .before .before .before .before .before .before .args .s .now) (c .before .before .before .before .before .before .before .before .before .before .before .args .at) ((c .before .before .before .before .before .before .h .given) .0 .0) unknownClass _ (c .before .before .before .before .before .before .before .before .before .if1 .left) (c .before .before .before .before .before .before .before .before .read-header .ensures) ((c .before .before .before .before .before .before .h .given) .1) (class-above _ (c .before .before .if3 .left) (omega arith) (omega arith) (λ e. (c .before .before .before .before .match2 .rest) .1 (inr e)))))
 
 abbrev count-members-Inv-loop : count-members-lts.InvT-loop
-count-members-Inv-loop s little at levels left₀ coords₀ runs₀ next₀ left coords runs next =
-    (runCounts (times _++_ [] (walkRuns levels s) left₀ next₀) ≡ plus coords runs (runCounts (times _++_ [] (walkRuns levels s) left next))) × (16 * coords ≤ next) × (runs ≤ coords)
+count-members-Inv-loop s little at levels left₀ coords₀ runs₀ others₀ next₀ left coords runs others next =
+    (runCounts (times _++_ [] (walkRuns levels s) left₀ next₀) ≡ plus coords runs others (runCounts (times _++_ [] (walkRuns levels s) left next))) × (16 * coords ≤ next) × (runs ≤ coords) × (others ≤ runs)
 
 abbrev count-members-μ-loop : count-members-lts.MeasureT-loop
-count-members-μ-loop s little at levels left₀ coords₀ runs₀ next₀ left coords runs next = left
+count-members-μ-loop s little at levels left₀ coords₀ runs₀ others₀ next₀ left coords runs others next = left
 
 count-members-is-short-requires : (t : ℕ) → count-members-lts.Need-is-short-requires (
   is-short-reads.Asked,
@@ -368,7 +368,7 @@ count-members-loop-holds : (t : ℕ) → count-members-lts.Need-loop-holds (
   count-geometry-below t,
   count-geometry.Post,
 ) (count-members-at t) count-members.Post count-members-Inv-loop count-members-μ-loop
-count-members-loop-holds t c = (sym (plus-zero _), omega arith, omega arith)
+count-members-loop-holds t c = (sym (plus-zero _), omega arith, omega arith, omega arith)
 
 count-members-count-geometry-requires : (t : ℕ) → count-members-lts.Need-count-geometry-requires (
   is-short-reads.Asked,
@@ -398,7 +398,7 @@ count-members-returns-2 : (t : ℕ) → count-members-lts.Need-returns-2 (
   count-geometry-below t,
   count-geometry.Post,
 ) (count-members-at t) count-members.Post count-members-Inv-loop count-members-μ-loop
-count-members-returns-2 t c = sym (members-are (c .before .before .before .before .before .before .before .before .before .before .args .levels) (c .before .before .before .before .before .before .before .before .before .before .args .little) (c .before .before .before .before .before .before .before .before .before .before .args .s .now) (c .before .before .before .before .before .before .before .before .before .before .args .at) (c .before .before .before .before .before .before .u32-at .result) (c .before .before .before .before .before .before .before .before .is-short .result) (c .before .before .before .before .before .before .before .before .is-short .ensures) (c .before .before .before .before .before .before .before .if1 .left) (c .before .before .before .before .before .before .u32-at .ensures) ∙ turn-refused (walkRuns (c .before .before .before .before .before .before .before .before .before .before .args .levels) (c .before .before .before .before .before .before .before .before .before .before .args .s .now)) _ _ _ _ _ _ _ ((c .before .before .before .before .before .loop .inv) .0) (c .before .before .before .before .loop-test .taken) (c .before .before .before .count-geometry .ensures) ((c .before .k .given) .1))
+count-members-returns-2 t c = sym (members-are (c .before .before .before .before .before .before .before .before .before .before .args .levels) (c .before .before .before .before .before .before .before .before .before .before .args .little) (c .before .before .before .before .before .before .before .before .before .before .args .s .now) (c .before .before .before .before .before .before .before .before .before .before .args .at) (c .before .before .before .before .before .before .u32-at .result) (c .before .before .before .before .before .before .before .before .is-short .result) (c .before .before .before .before .before .before .before .before .is-short .ensures) (c .before .before .before .before .before .before .before .if1 .left) (c .before .before .before .before .before .before .u32-at .ensures) ∙ turn-refused (walkRuns (c .before .before .before .before .before .before .before .before .before .before .args .levels) (c .before .before .before .before .before .before .before .before .before .before .args .s .now)) _ _ _ _ _ _ _ _ ((c .before .before .before .before .before .loop .inv) .0) (c .before .before .before .before .loop-test .taken) (c .before .before .before .count-geometry .ensures) ((c .before .k .given) .1))
 
 count-members-enum-known-n : (t : ℕ) → count-members-lts.Need-enum-known-n (
   is-short-reads.Asked,
@@ -418,7 +418,7 @@ count-members-add-coords : (t : ℕ) → count-members-lts.Need-add-coords (
   count-geometry-below t,
   count-geometry.Post,
 ) (count-members-at t) count-members.Post count-members-Inv-loop count-members-μ-loop
-count-members-add-coords t c = let i : (16 * ((c .before .n .given) .0 .0) + (c .before .before .before .before .before .loop .next) ≤ (c .before .n .given) .0 .1 .1 .0) × ((c .before .n .given) .0 .1 .0 ≤ (c .before .n .given) .0 .0) = inside-of (walkRuns (c .before .before .before .before .before .before .before .before .before .before .args .levels) (c .before .before .before .before .before .before .before .before .before .before .args .s .now)) (inside-walk (c .before .before .before .before .before .before .before .before .before .before .args .levels) (c .before .before .before .before .before .before .before .before .before .before .args .s .now)) (c .before .before .before .before .before .loop .next) _ _ _ _ (c .before .before .before .count-geometry .ensures) ((c .before .n .given) .1) in omega (arith, (c .known-told2 .given))
+count-members-add-coords t c = let i : (16 * ((c .before .n .given) .0 .0) + (c .before .before .before .before .before .loop .next) ≤ (c .before .n .given) .0 .1 .1 .1 .0) × ((c .before .n .given) .0 .1 .0 ≤ (c .before .n .given) .0 .0) × ((c .before .n .given) .0 .1 .1 .0 ≤ (c .before .n .given) .0 .1 .0) = inside-of (walkRuns (c .before .before .before .before .before .before .before .before .before .before .args .levels) (c .before .before .before .before .before .before .before .before .before .before .args .s .now)) (inside-walk (c .before .before .before .before .before .before .before .before .before .before .args .levels) (c .before .before .before .before .before .before .before .before .before .before .args .s .now)) (c .before .before .before .before .before .loop .next) _ _ _ _ _ (c .before .before .before .count-geometry .ensures) ((c .before .n .given) .1) in omega (arith, (c .known-told2 .given))
 
 count-members-add-runs : (t : ℕ) → count-members-lts.Need-add-runs (
   is-short-reads.Asked,
@@ -428,7 +428,17 @@ count-members-add-runs : (t : ℕ) → count-members-lts.Need-add-runs (
   count-geometry-below t,
   count-geometry.Post,
 ) (count-members-at t) count-members.Post count-members-Inv-loop count-members-μ-loop
-count-members-add-runs t c = let i : (16 * ((c .before .n .given) .0 .0) + (c .before .before .before .before .before .loop .next) ≤ (c .before .n .given) .0 .1 .1 .0) × ((c .before .n .given) .0 .1 .0 ≤ (c .before .n .given) .0 .0) = inside-of (walkRuns (c .before .before .before .before .before .before .before .before .before .before .args .levels) (c .before .before .before .before .before .before .before .before .before .before .args .s .now)) (inside-walk (c .before .before .before .before .before .before .before .before .before .before .args .levels) (c .before .before .before .before .before .before .before .before .before .before .args .s .now)) (c .before .before .before .before .before .loop .next) _ _ _ _ (c .before .before .before .count-geometry .ensures) ((c .before .n .given) .1) in omega (arith, (c .known-told2 .given))
+count-members-add-runs t c = let i : (16 * ((c .before .n .given) .0 .0) + (c .before .before .before .before .before .loop .next) ≤ (c .before .n .given) .0 .1 .1 .1 .0) × ((c .before .n .given) .0 .1 .0 ≤ (c .before .n .given) .0 .0) × ((c .before .n .given) .0 .1 .1 .0 ≤ (c .before .n .given) .0 .1 .0) = inside-of (walkRuns (c .before .before .before .before .before .before .before .before .before .before .args .levels) (c .before .before .before .before .before .before .before .before .before .before .args .s .now)) (inside-walk (c .before .before .before .before .before .before .before .before .before .before .args .levels) (c .before .before .before .before .before .before .before .before .before .before .args .s .now)) (c .before .before .before .before .before .loop .next) _ _ _ _ _ (c .before .before .before .count-geometry .ensures) ((c .before .n .given) .1) in omega (arith, (c .known-told2 .given))
+
+count-members-add-others : (t : ℕ) → count-members-lts.Need-add-others (
+  is-short-reads.Asked,
+  is-short-reads.Learnt,
+  u32-at-reads.Asked,
+  u32-at-reads.Learnt,
+  count-geometry-below t,
+  count-geometry.Post,
+) (count-members-at t) count-members.Post count-members-Inv-loop count-members-μ-loop
+count-members-add-others t c = let i : (16 * ((c .before .n .given) .0 .0) + (c .before .before .before .before .before .loop .next) ≤ (c .before .n .given) .0 .1 .1 .1 .0) × ((c .before .n .given) .0 .1 .0 ≤ (c .before .n .given) .0 .0) × ((c .before .n .given) .0 .1 .1 .0 ≤ (c .before .n .given) .0 .1 .0) = inside-of (walkRuns (c .before .before .before .before .before .before .before .before .before .before .args .levels) (c .before .before .before .before .before .before .before .before .before .before .args .s .now)) (inside-walk (c .before .before .before .before .before .before .before .before .before .before .args .levels) (c .before .before .before .before .before .before .before .before .before .before .args .s .now)) (c .before .before .before .before .before .loop .next) _ _ _ _ _ (c .before .before .before .count-geometry .ensures) ((c .before .n .given) .1) in omega (arith, (c .known-told2 .given))
 
 count-members-sub-left : (t : ℕ) → count-members-lts.Need-sub-left (
   is-short-reads.Asked,
@@ -458,7 +468,7 @@ count-members-loop-again : (t : ℕ) → count-members-lts.Need-loop-again (
   count-geometry-below t,
   count-geometry.Post,
 ) (count-members-at t) count-members.Post count-members-Inv-loop count-members-μ-loop
-count-members-loop-again t c = let i : (16 * ((c .before .n .given) .0 .0) + (c .before .before .before .before .before .loop .next) ≤ (c .before .n .given) .0 .1 .1 .0) × ((c .before .n .given) .0 .1 .0 ≤ (c .before .n .given) .0 .0) = inside-of (walkRuns (c .before .before .before .before .before .before .before .before .before .before .args .levels) (c .before .before .before .before .before .before .before .before .before .before .args .s .now)) (inside-walk (c .before .before .before .before .before .before .before .before .before .before .args .levels) (c .before .before .before .before .before .before .before .before .before .before .args .s .now)) (c .before .before .before .before .before .loop .next) _ _ _ _ (c .before .before .before .count-geometry .ensures) ((c .before .n .given) .1) in (turn-whole (walkRuns (c .before .before .before .before .before .before .before .before .before .before .args .levels) (c .before .before .before .before .before .before .before .before .before .before .args .s .now)) _ _ _ _ _ _ _ _ _ ((c .before .before .before .before .before .loop .inv) .0) (c .before .before .before .before .loop-test .taken) (c .before .before .before .count-geometry .ensures) ((c .before .n .given) .1), omega arith, omega arith)
+count-members-loop-again t c = let i : (16 * ((c .before .n .given) .0 .0) + (c .before .before .before .before .before .loop .next) ≤ (c .before .n .given) .0 .1 .1 .1 .0) × ((c .before .n .given) .0 .1 .0 ≤ (c .before .n .given) .0 .0) × ((c .before .n .given) .0 .1 .1 .0 ≤ (c .before .n .given) .0 .1 .0) = inside-of (walkRuns (c .before .before .before .before .before .before .before .before .before .before .args .levels) (c .before .before .before .before .before .before .before .before .before .before .args .s .now)) (inside-walk (c .before .before .before .before .before .before .before .before .before .before .args .levels) (c .before .before .before .before .before .before .before .before .before .before .args .s .now)) (c .before .before .before .before .before .loop .next) _ _ _ _ _ (c .before .before .before .count-geometry .ensures) ((c .before .n .given) .1) in (turn-whole (walkRuns (c .before .before .before .before .before .before .before .before .before .before .args .levels) (c .before .before .before .before .before .before .before .before .before .before .args .s .now)) _ _ _ _ _ _ _ _ _ _ _ ((c .before .before .before .before .before .loop .inv) .0) (c .before .before .before .before .loop-test .taken) (c .before .before .before .count-geometry .ensures) ((c .before .n .given) .1), omega arith, omega arith, omega arith)
 
 count-members-returns-3 : (t : ℕ) → count-members-lts.Need-returns-3 (
   is-short-reads.Asked,
@@ -468,7 +478,7 @@ count-members-returns-3 : (t : ℕ) → count-members-lts.Need-returns-3 (
   count-geometry-below t,
   count-geometry.Post,
 ) (count-members-at t) count-members.Post count-members-Inv-loop count-members-μ-loop
-count-members-returns-3 t c = sym (members-are (c .before .before .before .before .before .before .args .levels) (c .before .before .before .before .before .before .args .little) (c .before .before .before .before .before .before .args .s .now) (c .before .before .before .before .before .before .args .at) (c .before .before .u32-at .result) (c .before .before .before .before .is-short .result) (c .before .before .before .before .is-short .ensures) (c .before .before .before .if1 .left) (c .before .before .u32-at .ensures) ∙ turns-end (walkRuns (c .before .before .before .before .before .before .args .levels) (c .before .before .before .before .before .before .args .s .now)) _ _ _ _ _ ((c .before .loop .inv) .0) (c .loop-test .left))
+count-members-returns-3 t c = sym (members-are (c .before .before .before .before .before .before .args .levels) (c .before .before .before .before .before .before .args .little) (c .before .before .before .before .before .before .args .s .now) (c .before .before .before .before .before .before .args .at) (c .before .before .u32-at .result) (c .before .before .before .before .is-short .result) (c .before .before .before .before .is-short .ensures) (c .before .before .before .if1 .left) (c .before .before .u32-at .ensures) ∙ turns-end (walkRuns (c .before .before .before .before .before .before .args .levels) (c .before .before .before .before .before .before .args .s .now)) _ _ _ _ _ _ ((c .before .loop .inv) .0) (c .loop-test .left))
 
 pub +count-geometry+count-members-spec : {M : Type 1} → statement M
 +count-geometry+count-members-spec =
@@ -526,6 +536,7 @@ pub +count-geometry+count-members-spec : {M : Type 1} → statement M
     (count-members-enum-known-n t)
     (count-members-add-coords t)
     (count-members-add-runs t)
+    (count-members-add-others t)
     (count-members-sub-left t)
     (count-members-loop-less t)
     (count-members-loop-again t)

@@ -15,11 +15,11 @@ use Rattle.coords.proofs.count_rings.Statement.{statement}
 use Rattle.coords.proofs.count_rings.Tie as tie
 
 abbrev Inv-loop : tie.InvT-loop
-Inv-loop s h at left₀ coords₀ runs₀ next₀ left coords runs next =
-    (runCounts (times _++_ [] (lineRuns h s) left₀ next₀) ≡ plus coords runs (runCounts (times _++_ [] (lineRuns h s) left next))) × (16 * coords ≤ next) × (runs ≤ coords)
+Inv-loop s h at left₀ coords₀ runs₀ others₀ next₀ left coords runs others next =
+    (runCounts (times _++_ [] (lineRuns h s) left₀ next₀) ≡ plus coords runs others (runCounts (times _++_ [] (lineRuns h s) left next))) × (16 * coords ≤ next) × (runs ≤ coords) × (others ≤ runs)
 
 abbrev μ-loop : tie.MeasureT-loop
-μ-loop s h at left₀ coords₀ runs₀ next₀ left coords runs next = left
+μ-loop s h at left₀ coords₀ runs₀ others₀ next₀ left coords runs others next = left
 
 is-short-requires : tie.Need-is-short-requires Inv-loop μ-loop
 is-short-requires c κs = search needs
@@ -35,7 +35,7 @@ add-next : tie.Need-add-next Inv-loop μ-loop
 add-next c = omega (arith, room (c .before .before .is-short .result) (length (c .before .before .before .before .args .s .now)) ((c .before .before .before .before .args .at) + 4) (c .before .before .is-short .ensures) (c .before .if1 .left))
 
 loop-holds : tie.Need-loop-holds Inv-loop μ-loop
-loop-holds c = (sym (plus-zero _), omega arith, omega arith)
+loop-holds c = (sym (plus-zero _), omega arith, omega arith, omega arith)
 
 count-line-requires : tie.Need-count-line-requires Inv-loop μ-loop
 count-line-requires c κs = search needs
@@ -44,16 +44,19 @@ enum-known-k : tie.Need-enum-known-k Inv-loop μ-loop
 enum-known-k c = search needs
 
 returns-2 : tie.Need-returns-2 Inv-loop μ-loop
-returns-2 c = sym (rings-are (c .before .before .before .before .before .before .before .before .before .before .args .h) (c .before .before .before .before .before .before .before .before .before .before .args .s .now) (c .before .before .before .before .before .before .before .before .before .before .args .at) (c .before .before .before .before .before .before .u32-at .result) (c .before .before .before .before .before .before .before .before .is-short .result) (c .before .before .before .before .before .before .before .before .is-short .ensures) (c .before .before .before .before .before .before .before .if1 .left) (c .before .before .before .before .before .before .u32-at .ensures) ∙ turn-refused (lineRuns (c .before .before .before .before .before .before .before .before .before .before .args .h) (c .before .before .before .before .before .before .before .before .before .before .args .s .now)) _ _ _ _ _ _ _ ((c .before .before .before .before .before .loop .inv) .0) (c .before .before .before .before .loop-test .taken) (c .before .before .before .count-line .ensures) ((c .before .k .given) .1))
+returns-2 c = sym (rings-are (c .before .before .before .before .before .before .before .before .before .before .args .h) (c .before .before .before .before .before .before .before .before .before .before .args .s .now) (c .before .before .before .before .before .before .before .before .before .before .args .at) (c .before .before .before .before .before .before .u32-at .result) (c .before .before .before .before .before .before .before .before .is-short .result) (c .before .before .before .before .before .before .before .before .is-short .ensures) (c .before .before .before .before .before .before .before .if1 .left) (c .before .before .before .before .before .before .u32-at .ensures) ∙ turn-refused (lineRuns (c .before .before .before .before .before .before .before .before .before .before .args .h) (c .before .before .before .before .before .before .before .before .before .before .args .s .now)) _ _ _ _ _ _ _ _ ((c .before .before .before .before .before .loop .inv) .0) (c .before .before .before .before .loop-test .taken) (c .before .before .before .count-line .ensures) ((c .before .k .given) .1))
 
 enum-known-n : tie.Need-enum-known-n Inv-loop μ-loop
 enum-known-n c = search needs
 
 add-coords : tie.Need-add-coords Inv-loop μ-loop
-add-coords c = let i : (16 * ((c .before .n .given) .0 .0) + (c .before .before .before .before .before .loop .next) ≤ (c .before .n .given) .0 .1 .1 .0) × ((c .before .n .given) .0 .1 .0 ≤ (c .before .n .given) .0 .0) = inside-of (lineRuns (c .before .before .before .before .before .before .before .before .before .before .args .h) (c .before .before .before .before .before .before .before .before .before .before .args .s .now)) (inside-line (c .before .before .before .before .before .before .before .before .before .before .args .h) (c .before .before .before .before .before .before .before .before .before .before .args .s .now)) (c .before .before .before .before .before .loop .next) _ _ _ _ (c .before .before .before .count-line .ensures) ((c .before .n .given) .1) in omega (arith, (c .known-told2 .given))
+add-coords c = let i : (16 * ((c .before .n .given) .0 .0) + (c .before .before .before .before .before .loop .next) ≤ (c .before .n .given) .0 .1 .1 .1 .0) × ((c .before .n .given) .0 .1 .0 ≤ (c .before .n .given) .0 .0) × ((c .before .n .given) .0 .1 .1 .0 ≤ (c .before .n .given) .0 .1 .0) = inside-of (lineRuns (c .before .before .before .before .before .before .before .before .before .before .args .h) (c .before .before .before .before .before .before .before .before .before .before .args .s .now)) (inside-line (c .before .before .before .before .before .before .before .before .before .before .args .h) (c .before .before .before .before .before .before .before .before .before .before .args .s .now)) (c .before .before .before .before .before .loop .next) _ _ _ _ _ (c .before .before .before .count-line .ensures) ((c .before .n .given) .1) in omega (arith, (c .known-told2 .given))
 
 add-runs : tie.Need-add-runs Inv-loop μ-loop
-add-runs c = let i : (16 * ((c .before .n .given) .0 .0) + (c .before .before .before .before .before .loop .next) ≤ (c .before .n .given) .0 .1 .1 .0) × ((c .before .n .given) .0 .1 .0 ≤ (c .before .n .given) .0 .0) = inside-of (lineRuns (c .before .before .before .before .before .before .before .before .before .before .args .h) (c .before .before .before .before .before .before .before .before .before .before .args .s .now)) (inside-line (c .before .before .before .before .before .before .before .before .before .before .args .h) (c .before .before .before .before .before .before .before .before .before .before .args .s .now)) (c .before .before .before .before .before .loop .next) _ _ _ _ (c .before .before .before .count-line .ensures) ((c .before .n .given) .1) in omega (arith, (c .known-told2 .given))
+add-runs c = let i : (16 * ((c .before .n .given) .0 .0) + (c .before .before .before .before .before .loop .next) ≤ (c .before .n .given) .0 .1 .1 .1 .0) × ((c .before .n .given) .0 .1 .0 ≤ (c .before .n .given) .0 .0) × ((c .before .n .given) .0 .1 .1 .0 ≤ (c .before .n .given) .0 .1 .0) = inside-of (lineRuns (c .before .before .before .before .before .before .before .before .before .before .args .h) (c .before .before .before .before .before .before .before .before .before .before .args .s .now)) (inside-line (c .before .before .before .before .before .before .before .before .before .before .args .h) (c .before .before .before .before .before .before .before .before .before .before .args .s .now)) (c .before .before .before .before .before .loop .next) _ _ _ _ _ (c .before .before .before .count-line .ensures) ((c .before .n .given) .1) in omega (arith, (c .known-told2 .given))
+
+add-others : tie.Need-add-others Inv-loop μ-loop
+add-others c = let i : (16 * ((c .before .n .given) .0 .0) + (c .before .before .before .before .before .loop .next) ≤ (c .before .n .given) .0 .1 .1 .1 .0) × ((c .before .n .given) .0 .1 .0 ≤ (c .before .n .given) .0 .0) × ((c .before .n .given) .0 .1 .1 .0 ≤ (c .before .n .given) .0 .1 .0) = inside-of (lineRuns (c .before .before .before .before .before .before .before .before .before .before .args .h) (c .before .before .before .before .before .before .before .before .before .before .args .s .now)) (inside-line (c .before .before .before .before .before .before .before .before .before .before .args .h) (c .before .before .before .before .before .before .before .before .before .before .args .s .now)) (c .before .before .before .before .before .loop .next) _ _ _ _ _ (c .before .before .before .count-line .ensures) ((c .before .n .given) .1) in omega (arith, (c .known-told2 .given))
 
 sub-left : tie.Need-sub-left Inv-loop μ-loop
 sub-left c = omega arith
@@ -62,10 +65,10 @@ loop-less : tie.Need-loop-less Inv-loop μ-loop
 loop-less c = omega arith
 
 loop-again : tie.Need-loop-again Inv-loop μ-loop
-loop-again c = let i : (16 * ((c .before .n .given) .0 .0) + (c .before .before .before .before .before .loop .next) ≤ (c .before .n .given) .0 .1 .1 .0) × ((c .before .n .given) .0 .1 .0 ≤ (c .before .n .given) .0 .0) = inside-of (lineRuns (c .before .before .before .before .before .before .before .before .before .before .args .h) (c .before .before .before .before .before .before .before .before .before .before .args .s .now)) (inside-line (c .before .before .before .before .before .before .before .before .before .before .args .h) (c .before .before .before .before .before .before .before .before .before .before .args .s .now)) (c .before .before .before .before .before .loop .next) _ _ _ _ (c .before .before .before .count-line .ensures) ((c .before .n .given) .1) in (turn-whole (lineRuns (c .before .before .before .before .before .before .before .before .before .before .args .h) (c .before .before .before .before .before .before .before .before .before .before .args .s .now)) _ _ _ _ _ _ _ _ _ ((c .before .before .before .before .before .loop .inv) .0) (c .before .before .before .before .loop-test .taken) (c .before .before .before .count-line .ensures) ((c .before .n .given) .1), omega arith, omega arith)
+loop-again c = let i : (16 * ((c .before .n .given) .0 .0) + (c .before .before .before .before .before .loop .next) ≤ (c .before .n .given) .0 .1 .1 .1 .0) × ((c .before .n .given) .0 .1 .0 ≤ (c .before .n .given) .0 .0) × ((c .before .n .given) .0 .1 .1 .0 ≤ (c .before .n .given) .0 .1 .0) = inside-of (lineRuns (c .before .before .before .before .before .before .before .before .before .before .args .h) (c .before .before .before .before .before .before .before .before .before .before .args .s .now)) (inside-line (c .before .before .before .before .before .before .before .before .before .before .args .h) (c .before .before .before .before .before .before .before .before .before .before .args .s .now)) (c .before .before .before .before .before .loop .next) _ _ _ _ _ (c .before .before .before .count-line .ensures) ((c .before .n .given) .1) in (turn-whole (lineRuns (c .before .before .before .before .before .before .before .before .before .before .args .h) (c .before .before .before .before .before .before .before .before .before .before .args .s .now)) _ _ _ _ _ _ _ _ _ _ _ ((c .before .before .before .before .before .loop .inv) .0) (c .before .before .before .before .loop-test .taken) (c .before .before .before .count-line .ensures) ((c .before .n .given) .1), omega arith, omega arith, omega arith)
 
 returns-3 : tie.Need-returns-3 Inv-loop μ-loop
-returns-3 c = sym (rings-are (c .before .before .before .before .before .before .args .h) (c .before .before .before .before .before .before .args .s .now) (c .before .before .before .before .before .before .args .at) (c .before .before .u32-at .result) (c .before .before .before .before .is-short .result) (c .before .before .before .before .is-short .ensures) (c .before .before .before .if1 .left) (c .before .before .u32-at .ensures) ∙ turns-end (lineRuns (c .before .before .before .before .before .before .args .h) (c .before .before .before .before .before .before .args .s .now)) _ _ _ _ _ ((c .before .loop .inv) .0) (c .loop-test .left))
+returns-3 c = sym (rings-are (c .before .before .before .before .before .before .args .h) (c .before .before .before .before .before .before .args .s .now) (c .before .before .before .before .before .before .args .at) (c .before .before .u32-at .result) (c .before .before .before .before .is-short .result) (c .before .before .before .before .is-short .ensures) (c .before .before .before .if1 .left) (c .before .before .u32-at .ensures) ∙ turns-end (lineRuns (c .before .before .before .before .before .before .args .h) (c .before .before .before .before .before .before .args .s .now)) _ _ _ _ _ _ ((c .before .loop .inv) .0) (c .loop-test .left))
 
 pub count-rings-spec : {M : Type 1} → statement M
 count-rings-spec =
@@ -84,6 +87,7 @@ count-rings-spec =
     enum-known-n
     add-coords
     add-runs
+    add-others
     sub-left
     loop-less
     loop-again

@@ -1,7 +1,7 @@
 -- `coords::count_run` meets its contract. Assumes nothing.
 use lib.ListN.{length}
 use Prim.Native.Nat.{_+_, _*_}
-use Rattle.coords.proofs.Laws.{room, product-fits, counts-run, one}
+use Rattle.coords.proofs.Laws.{room, product-fits, counts-run, one, other}
 use mathlib.Core.Path.{sym, _∙_}
 use native.Mathlib.Omega.{arith}
 use Rattle.coords.specs.Counts.{runCounts}
@@ -29,10 +29,13 @@ add-end c = omega (arith, room (c .before .is-short .result) (length (c .before 
 returns-2 : tie.Need-returns-2
 returns-2 c = sym (counts-run _ _ _ _ (rw (← (c .before .before .before .stride-of .ensures)) (sym (c .before .before .is-short .ensures) ∙ (c .before .if1 .left))) ∙ simp (← (c .before .before .before .stride-of .ensures), (c .if2 .taken)))
 
+other-if-requires : tie.Need-other-if-requires
+other-if-requires c κs = search needs
+
 returns-3 : tie.Need-returns-3
-returns-3 c = sym (counts-run _ _ _ _ (rw (← (c .before .before .before .stride-of .ensures)) (sym (c .before .before .is-short .ensures) ∙ (c .before .if1 .left))) ∙ simp (one _ (c .if2 .left), ← (c .before .before .before .stride-of .ensures)))
+returns-3 c = sym (counts-run _ _ _ _ (rw (← (c .before .before .before .before .stride-of .ensures)) (sym (c .before .before .before .is-short .ensures) ∙ (c .before .before .if1 .left))) ∙ simp (one _ (c .before .if2 .left), other _ (c .before .before .before .before .before .before .args .h .kind) (c .before .if2 .left), ← (c .before .before .before .before .stride-of .ensures), ← (c .other-if .ensures)))
 
 pub count-run-spec : {M : Type 1} → statement M
 count-run-spec =
     tie.close
-    (tie.spec stride-of-requires mul-total is-short-requires returns add-end returns-2 returns-3)
+    (tie.spec stride-of-requires mul-total is-short-requires returns add-end other-if-requires returns-2 returns-3)
