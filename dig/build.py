@@ -1,4 +1,6 @@
-"""The proved library: its archive by `rt`, and the shared object that Python can load."""
+"""The proved library: its archive by `rt`, and the shared object of the archive and of shared/ (batches, words)."""
+import glob
+import hashlib
 import os
 import shutil
 import subprocess
@@ -10,6 +12,7 @@ from dig.problems import Problems
 ROOT = os.path.dirname(os.path.dirname(os.path.realpath(__file__)))
 ARCHIVE = os.path.join(ROOT, "target", "staticlib", "libviskorrel.a")
 SHARED = os.path.join(ROOT, "target", "libviskorrel.so")
+MADE_OF = SHARED + ".made-of"  # the sum of what it was linked from, and its own
 TICK = 20  # seconds between signs of life
 
 
@@ -31,12 +34,11 @@ def sources():
 
 
 def library():
-    """The path of the shared object, made anew where the sources are newer."""
+    """The path of the shared object, made anew where what it is made of has changed."""
     newest = max(os.path.getmtime(path) for path in sources())
     if not os.path.exists(ARCHIVE) or os.path.getmtime(ARCHIVE) < newest:
         prove()
-    if not os.path.exists(SHARED) or os.path.getmtime(SHARED) <= os.path.getmtime(ARCHIVE):
-        link()
+    link()
     return SHARED
 
 
@@ -65,20 +67,44 @@ def prove():
 
 
 def link():
-    compiler = os.environ.get("CC", "cc")
-    if shutil.which(compiler) is None:
-        raise Problems(f"no C compiler {compiler}: it is needed to link the library (CC names another)")
+    """Links the shared object, if it is not there or was made of something else."""
+    command = link_command()
+    parts = [part for part in sorted(glob.glob(os.path.join(ROOT, "shared", "*")) + glob.glob(os.path.join(ROOT, "include", "*.h")))]
+    made_of = total(" ".join(command).encode(), *map(content, [ARCHIVE, *parts]))
+    if os.path.exists(SHARED) and os.path.exists(MADE_OF) and content(MADE_OF).decode().split() == [made_of, total(content(SHARED))]:
+        return
+    if shutil.which(command[0]) is None:
+        raise Problems(f"no C compiler {command[0]}: it is needed to link the library (CC names another)")
     unfinished = f"{SHARED}.{os.getpid()}"
     try:
-        done = subprocess.run(
-            [compiler, "-shared", "-o", unfinished, "-Wl,--whole-archive", ARCHIVE, "-Wl,--no-whole-archive"],
-            stdin=subprocess.DEVNULL, capture_output=True, text=True)
+        done = subprocess.run([*command, "-o", unfinished], stdin=subprocess.DEVNULL, capture_output=True, text=True)
         if done.returncode != 0:
-            raise Problems(f"{compiler} could not link the library", *done.stderr.splitlines())
+            raise Problems(f"{command[0]} could not link the library", *done.stderr.splitlines())
+        own = total(content(unfinished))
         os.replace(unfinished, SHARED)
+        with open(MADE_OF, "w") as file:
+            file.write(f"{made_of} {own}\n")
     finally:
         if os.path.exists(unfinished):
             os.remove(unfinished)
+
+
+def link_command():
+    shared = os.path.join(ROOT, "shared")
+    return [os.environ.get("CC", "cc"), "-std=c99", "-O2", "-Wall", "-Wextra", "-fPIC", "-fvisibility=hidden", "-shared",
+            "-Wl,-soname,libviskorrel.so.0", "-Wl,-z,noexecstack", f"-Wl,--version-script={os.path.join(shared, 'exports.map')}",
+            "-I", os.path.join(ROOT, "include"), os.path.join(shared, "batch.c"), os.path.join(shared, "words.c"),
+            "-Wl,--whole-archive", ARCHIVE, "-Wl,--no-whole-archive"]
+
+
+def content(path):
+    with open(path, "rb") as file:
+        return file.read()
+
+
+def total(*parts):
+    """One sum over parts, each by its own sum, so that no two lists of parts run together."""
+    return hashlib.sha256(b"".join(hashlib.sha256(part).digest() for part in parts)).hexdigest()
 
 
 def say(line):
