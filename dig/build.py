@@ -123,10 +123,11 @@ class Progress:
     def __init__(self, weights):
         self.weights = weights
         self.left = dict(weights)
-        self.proved_now = 0  # the weight of the crates that were proved in this run
+        self.pace = 0  # seconds for each unit of weight, of the crates that were proved in this run
+        self.proved_now = 0  # their weight
         self.failures = []
         self.rest = ""
-        self.start = self.shown = time.monotonic()
+        self.start = self.shown = self.last = time.monotonic()
         self.on_terminal = sys.stderr.isatty()
 
     def read(self, text):
@@ -144,6 +145,8 @@ class Progress:
         weight = self.left.pop(crate, 0)
         if weight and now:
             self.proved_now += weight
+            self.last = time.monotonic()
+            self.pace = (self.last - self.start) / self.proved_now
             self.show(f"{crate} proved")
 
     def sign(self):
@@ -161,9 +164,9 @@ class Progress:
             say(line)
 
     def time_left(self):
-        if not self.left or not self.proved_now:
+        if not self.left or not self.pace:
             return ""
-        seconds = (self.shown - self.start) * sum(self.left.values()) / self.proved_now
+        seconds = self.pace * sum(self.left.values()) - (self.shown - self.last)
         return f", about {spent(max(10, round(seconds, -1)))} left"
 
     def end(self):
