@@ -16,6 +16,8 @@ import sys
 import time
 
 from dig.problems import Problems
+from viskorrel import LibraryMissing, load
+from viskorrel._library import VARIABLE
 
 ROOT = os.path.dirname(os.path.dirname(os.path.realpath(__file__)))
 LISTING = os.path.join(ROOT, "crates.txt")
@@ -27,8 +29,14 @@ TICK = 20  # seconds between signs of life
 EACH = 1000  # what a crate costs beside its code, in bytes of code: the estimate of the time left
 
 
-def library():
-    """The path of the repository's shared object, built where that is due."""
+def library(named=None):
+    """The path of the shared object: the one that is named (--library, VISKORREL_LIBRARY), the installed one, or the repository's own,
+    built where that is due."""
+    if named or os.environ.get(VARIABLE) or not os.path.exists(LISTING):
+        try:
+            return load(named).path
+        except LibraryMissing as fault:
+            raise Problems(str(fault)) from None
     os.makedirs(TARGET, exist_ok=True)
     with alone():
         prove()

@@ -92,9 +92,9 @@ def find(path=None):
         return in_folder(named)
     package = os.path.dirname(os.path.realpath(__file__))
     above = os.path.dirname(os.path.dirname(package))
-    places = [os.path.join(package, NAME),                               # a wheel
-              os.path.join(above, "target", NAME),                       # the repository: python/viskorrel
-              os.path.join(os.path.dirname(above), "lib", NAME)]         # make install: share/viskorrel/python/viskorrel
+    places = [os.path.join(package, NAME),          # a wheel
+              os.path.join(above, "target", NAME),  # the repository: python/viskorrel
+              os.path.join(os.path.dirname(os.path.dirname(above)), "lib", NAME)]  # make install: share/viskorrel/python/viskorrel
     return next((place for place in places if os.path.exists(place)), SONAME)
 
 
@@ -109,8 +109,9 @@ def in_folder(named):
 
 
 class Library:
+    """The functions, and the path of the file that has them."""
+
     def __init__(self, path):
-        self.path = path
         try:
             shared = ctypes.CDLL(path)
             for name, (result, arguments) in FUNCTIONS.items():
@@ -121,3 +122,15 @@ class Library:
             raise LibraryMissing(f"{NAME} could not be loaded ({fault}); {VARIABLE} may name it or its folder") from None
         except AttributeError as fault:
             raise LibraryMissing(f"{path} is not the shared object of this version: {fault}") from None
+        self.path = path if os.path.isabs(path) else located(shared.viskorrel_version)
+
+
+class Place(ctypes.Structure):  # Dl_info
+    _fields_ = [("file", ctypes.c_char_p), ("base", address), ("symbol", ctypes.c_char_p), ("at", address)]
+
+
+def located(function):
+    """The file that a function was loaded from."""
+    place = Place()
+    ctypes.CDLL(None).dladdr(ctypes.cast(function, address), ctypes.byref(place))
+    return os.path.realpath(os.fsdecode(place.file))
