@@ -17,7 +17,7 @@ import time
 
 from dig.problems import Problems
 from viskorrel import LibraryMissing, load
-from viskorrel._library import VARIABLE
+from viskorrel._library import NAME, VARIABLE
 
 ROOT = os.path.dirname(os.path.dirname(os.path.realpath(__file__)))
 LISTING = os.path.join(ROOT, "crates.txt")
@@ -25,6 +25,9 @@ TARGET = os.path.join(ROOT, "target")
 ARCHIVE = os.path.join(TARGET, "staticlib", "libviskorrel.a")
 SHARED = os.path.join(TARGET, "libviskorrel.so")
 LOG = os.path.join(TARGET, "build.log")  # the prover's lines
+INSTALLED = not os.path.exists(LISTING)
+USUAL = "the installed one" if INSTALLED else "the repository's own"  # where no library is named
+DEMO = "viskorrel-demo" if INSTALLED else os.path.join(TARGET, "demo")
 TICK = 20  # seconds between signs of life
 EACH = 1000  # what a crate costs beside its code, in bytes of code: the estimate of the time left
 
@@ -32,7 +35,7 @@ EACH = 1000  # what a crate costs beside its code, in bytes of code: the estimat
 def library(named=None):
     """The path of the shared object: the one that is named (--library, VISKORREL_LIBRARY), the installed one, or the repository's own,
     built where that is due."""
-    if named or os.environ.get(VARIABLE) or not os.path.exists(LISTING):
+    if named or os.environ.get(VARIABLE) or INSTALLED:
         try:
             return load(named).path
         except LibraryMissing as fault:

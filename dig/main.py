@@ -9,6 +9,7 @@ from dig import build, corridor, diglist, picture
 from dig.geopackage import GeoPackage
 from dig.measure import Library
 from dig.problems import Problems
+from viskorrel import __version__
 
 DENTS, STRUCK, WELDS = ["dents", "dent"], ["struck_off", "struck", "struck_dents"], ["welds", "weld"]
 PIPE, FITTINGS = ["centreline", "centerline", "pipe", "pipeline"], ["fittings", "fitting"]
@@ -20,7 +21,8 @@ The dig list of a corridor GeoPackage.
 Each dent with its nearest struck-off dent, by 3D distance: struck off within the tolerance, else NEW.
 Each dent group with the longest line from its dents to its weld: the width of the dig.
 
-  ./viskorrel demo [FOLDER]        makes corridor.gpkg in the folder (target/demo), prints its list, writes dig.csv and dig.svg
+  ./viskorrel demo [FOLDER]        makes corridor.gpkg in the folder (target/demo; installed: viskorrel-demo), prints its list,
+                                   writes dig.csv and dig.svg
   ./viskorrel FILE.gpkg [options]  prints the list of your file
 """
 END = """\
@@ -49,6 +51,8 @@ def parser():
     options.add_argument("--tolerance", metavar="METRES", type=metres, default=0.25, help="default: 0.25")
     options.add_argument("--csv", metavar="FILE", help="write the list as CSV")
     options.add_argument("--svg", metavar="FILE", help="draw plan and profile")
+    options.add_argument("--library", metavar="PATH", help=f"{build.NAME}, or the folder that has it; default: {build.VARIABLE}, else {build.USUAL}")
+    options.add_argument("--version", action="version", version=f"viskorrel {__version__}")
     return options
 
 
@@ -77,12 +81,12 @@ def main(words):
 
 
 def demo(asked):
-    folder = asked.folder or os.path.join(build.ROOT, "target", "demo")
+    folder = asked.folder or build.DEMO
     os.makedirs(folder, exist_ok=True)
     asked.file = os.path.join(folder, "corridor.gpkg")
     if os.path.exists(asked.file) and not ours(asked.file):
         raise Problems(f"{asked.file} is there and is not the demo's: it is left alone")
-    build.library()
+    build.library(asked.library)
     corridor.make(asked.file)
     asked.csv = asked.csv or os.path.join(folder, "dig.csv")
     asked.svg = asked.svg or os.path.join(folder, "dig.svg")
@@ -114,7 +118,7 @@ def run(asked):
         tables += [table for table in (pipe, fittings) if table]
     groups = {table: package.group_column(table, asked.group, GROUP) for table in (dents, welds)}
     package.metres(tables)
-    library = Library(build.library())
+    library = Library(build.library(asked.library))
 
     features, faults = {None: []}, []
     for table in dict.fromkeys(tables):
