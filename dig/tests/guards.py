@@ -138,7 +138,7 @@ def repeated(t):
     done = run(path, "--csv", path + ".csv")
     t.check("the same dent twice is counted once", "Whole list: 10 dents, 6 new; 3 digs; 2 rows not counted, the same dent again." in done.stdout, told(done))
     t.check("and reported", "11 is 2 (group A)" in done.stderr and "12 is 10 (group D)" in done.stdout, told(done))
-    t.check("and in the CSV", {row["id"]: row.get("same_as") for row in rows(path + ".csv")}.get("11") == "2")
+    t.check("and in the CSV", {row["dent"]: row.get("same_as") for row in rows(path + ".csv")}.get("11") == "2")
     done = run(t.changed(("INSERT INTO dents (geom, dent_group) SELECT geom, 'B' FROM dents WHERE fid = 2",)))
     t.check("the same geometry in two groups is reported", "2 (group A), 11 (group B)" in done.stderr and "11 dents" in done.stdout, told(done))
 
