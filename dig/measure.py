@@ -44,6 +44,7 @@ class Library:
     """Each operation takes blobs that `read` or `lend` has seen: the workspaces are then long enough."""
 
     def __init__(self, path):
+        self.path = path
         shared = ctypes.CDLL(path)
         size, address = ctypes.c_size_t, ctypes.c_void_p
         blob = [ctypes.c_char_p, size]  # the address of the bytes themselves; they are only read
@@ -58,7 +59,11 @@ class Library:
         self._distance = operation("viskorrel_3d_distance", Reply, blob * 2 + workspaces)
         self._dwithin = operation("viskorrel_3d_dwithin", Reply, blob * 2 + [ctypes.c_double] + workspaces)
         self._max_distance = operation("viskorrel_3d_max_distance", Reply, blob * 2 + workspaces)
+        self._shortest_line = operation("viskorrel_3d_shortest_line", Reply, blob * 2 + workspaces + [address, size])
         self._longest_line = operation("viskorrel_3d_longest_line", Reply, blob * 2 + workspaces + [address, size])
+        self._version = getattr(shared, "viskorrel_version", None)
+        if self._version:
+            self._version.restype = ctypes.c_char_p
         self._output = ctypes.create_string_buffer(LINE_BYTES)
         self._floats_length = self._table_length = 0
         self._lend(3, 2)
@@ -108,15 +113,27 @@ class Library:
         return reply.outcome == ANSWERED
 
     def longest(self, a, b):
-        """The longest line: its length and its two ends; None: there is none."""
-        reply = self._longest_line(a, len(a), b, len(b), *self._lent, ctypes.addressof(self._output), LINE_BYTES)
+        """The longest line: its length and its two ends; None: there is none. The blobs need not have been seen before."""
+        self.lend(a)
+        self.lend(b)
+        ends = self._line(self._longest_line, a, b)
+        return ends and (answer(self._max_distance(a, len(a), b, len(b), *self._lent)), *ends)
+
+    def shortest(self, a, b):
+        """The two ends of the shortest line; None: there is none."""
+        return self._line(self._shortest_line, a, b)
+
+    def _line(self, operation, a, b):
+        reply = operation(a, len(a), b, len(b), *self._lent, ctypes.addressof(self._output), LINE_BYTES)
         if reply.outcome == REFUSED:
             raise Refused(reply)
         if reply.outcome == NOTHING:
             return None
         ends = struct.unpack_from("<6d", self._output, 17)
-        length = answer(self._max_distance(a, len(a), b, len(b), *self._lent))
-        return length, ends[:3], ends[3:]
+        return ends[:3], ends[3:]
+
+    def version(self):
+        return self._version().decode() if self._version else "of no version"
 
 
 def answer(reply):
@@ -132,3 +149,8 @@ def multipoint(vertices):
     parts = [struct.pack("<BII", 1, 1004, len(vertices))]
     parts += [struct.pack("<BI3d", 1, 1001, *vertex) for vertex in vertices]
     return b"".join(parts)
+
+
+def line(vertices):
+    """Vertices as one WKB LineString Z, little-endian."""
+    return struct.pack("<BII", 1, 1002, len(vertices)) + b"".join(struct.pack("<3d", *vertex) for vertex in vertices)

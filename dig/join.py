@@ -1,0 +1,2 @@
+def command(words):
+    pass

@@ -1,0 +1,53 @@
+"""What every output carries: which file, by which programs, when, with which tolerance."""
+import datetime
+import os
+from dataclasses import dataclass
+from typing import Optional
+
+from dig import build
+from dig.opening import hashed
+
+
+@dataclass
+class Stamp:
+    file: str
+    sha256: str
+    log_sha256: Optional[str]  # of FILE-wal, where the file was read with one
+    made: str
+    tolerance: float
+    system: str
+    program: str
+    library: str
+
+    def rows(self):
+        """Name and value of each line, for people."""
+        return [("file", self.file), ("SHA-256", self.sha256)] + (
+            [("SHA-256 of its -wal", self.log_sha256)] if self.log_sha256 else []) + [
+            ("made", self.made), ("tolerance", f"{self.tolerance!r} m"), ("system", self.system),
+            ("program", f"viskorrel {self.program}"), ("library", self.library)]
+
+    def columns(self):
+        """Name and value of each column, for programs."""
+        return [("file", self.file), ("sha256", self.sha256 + (f"+{self.log_sha256}" if self.log_sha256 else "")), ("made", self.made),
+                ("tolerance", repr(self.tolerance)), ("system", self.system), ("program", self.program), ("library", self.library)]
+
+    def line(self):
+        return "; ".join(f"{name} {value}" for name, value in self.rows())
+
+
+def of(opened, tolerance, system, library):
+    made = datetime.datetime.now().astimezone().isoformat(" ", "seconds")
+    return Stamp(os.path.basename(opened.path), opened.sha256, opened.log_sha256, made, tolerance, system, program(), version(library))
+
+
+def program():
+    path = os.path.join(build.ROOT, "VERSION")
+    if not os.path.exists(path):
+        return "of no version"
+    with open(path) as file:
+        return file.read().strip()
+
+
+def version(library):
+    """The library's version, and the start of its sum: two builds of one version differ in it."""
+    return f"{library.version()}, SHA-256 {hashed(library.path)[:16]}"
