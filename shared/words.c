@@ -42,7 +42,7 @@ EXPORTED const char *viskorrel_advice(uint32_t number, const uint8_t *blob, size
     if (number >= 3 && number <= 13 && is_spatialite(blob, length))
         return "it looks like a blob of SpatiaLite's own; ogr2ogr -f GPKG OUT.gpkg FILE.sqlite writes GeoPackage blobs";
     if (number == 11)
-        return "if it is a curve, ogr2ogr -nlt CONVERT_TO_LINEAR makes lines of it";
+        return "if it is a curve, ogr2ogr -nlt CONVERT_TO_LINEAR -nlt LINESTRING makes lines of it (of a face: -nlt POLYGON)";
     if (number == 13)
         return "ogr2ogr -zfield COLUMN takes heights from a column";
     return 0;
