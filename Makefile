@@ -23,6 +23,9 @@ EXTENSION = target/viskorrel_sqlite.so
 
 ifdef VISKORREL_LIBRARY
 export VISKORREL_LIBRARY
+ifeq ($(shell test -f "$(VISKORREL_LIBRARY)/libviskorrel.a" && test -f "$(VISKORREL_LIBRARY)/libviskorrel.so" && echo both),)
+$(error VISKORREL_LIBRARY is to name a folder with libviskorrel.a and libviskorrel.so here, not $(VISKORREL_LIBRARY))
+endif
 ARCHIVE = $(VISKORREL_LIBRARY)/libviskorrel.a
 SHARED = $(VISKORREL_LIBRARY)/libviskorrel.so
 else
@@ -41,9 +44,10 @@ sqlite: library
 	sqlite/build $(EXTENSION)
 
 install: all
-	$(INSTALL) -d $(foreach dir,$(BINDIR) $(LIBDIR)/pkgconfig $(INCLUDEDIR) $(SHAREDIR)/dig $(SHAREDIR)/python/viskorrel $(DOCDIR),"$(DESTDIR)$(dir)")
-	$(INSTALL) -m 644 $(ARCHIVE) "$(DESTDIR)$(LIBDIR)/libviskorrel.a"
-	$(INSTALL) -m 644 $(SHARED) "$(DESTDIR)$(LIBDIR)/libviskorrel.so.$(VERSION)"
+	$(INSTALL) -d "$(DESTDIR)$(BINDIR)" "$(DESTDIR)$(LIBDIR)/pkgconfig" "$(DESTDIR)$(INCLUDEDIR)" "$(DESTDIR)$(SHAREDIR)/dig" \
+	    "$(DESTDIR)$(SHAREDIR)/python/viskorrel" "$(DESTDIR)$(DOCDIR)"
+	$(INSTALL) -m 644 "$(ARCHIVE)" "$(DESTDIR)$(LIBDIR)/libviskorrel.a"
+	$(INSTALL) -m 644 "$(SHARED)" "$(DESTDIR)$(LIBDIR)/libviskorrel.so.$(VERSION)"
 	ln -sf libviskorrel.so.$(VERSION) "$(DESTDIR)$(LIBDIR)/libviskorrel.so.0"
 	ln -sf libviskorrel.so.0 "$(DESTDIR)$(LIBDIR)/libviskorrel.so"
 	$(INSTALL) -m 644 $(EXTENSION) "$(DESTDIR)$(LIBDIR)/viskorrel_sqlite.so"
