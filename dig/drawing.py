@@ -190,9 +190,11 @@ class Names:
 
     def __init__(self, frame):
         self.frame, self.cells, self.missing, self.out = frame, {}, 0, []
-        # the corners that the scale and the arrow take
-        self.take((frame.left, frame.top + frame.height - 30, frame.left + frame.width / 3, frame.top + frame.height))
-        self.take((frame.left + frame.width - 36, frame.top, frame.left + frame.width, frame.top + 54))
+        right, bottom = frame.left + frame.width, frame.top + frame.height
+        # the corners that the scale, the arrow and the count of names left out take
+        self.take((frame.left, bottom - 30, frame.left + frame.width / 3, bottom))
+        self.take((right - 36, frame.top, right, frame.top + 54))
+        self.take((right - 170, bottom - 24, right, bottom))
 
     def take(self, rect):
         for cell in self.covered(rect):

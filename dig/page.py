@@ -26,7 +26,7 @@ tr.new td.state { font-weight: bold; color: #b00; }
 @page { size: A4; margin: 15mm; }
 @media print {
   body { margin: 0; padding: 0; max-width: none; } .sheet { break-before: page; border-top: none; margin: 0; padding: 0; }
-  .wide { overflow: visible; } .wide table { font-size: 10px; } .wide th, .wide td { padding: 1px 4px; } tr { break-inside: avoid; }
+  .wide { overflow: visible; } .wide table { font-size: 11px; } .wide th, .wide td { padding: 1px 4px; } tr { break-inside: avoid; }
   .overview svg { width: 680px; height: auto; }
 }
 """

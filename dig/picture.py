@@ -1,15 +1,16 @@
 """The dig list as an SVG: plan, profile, and each dig by itself."""
 import math
 
-from dig.drawing import (DONE, FRESH, Frame, Names, box, legend, near, north_arrow, scale_bar, scene, ticks, words)
+from dig.drawing import (DONE, FRESH, Frame, Names, box, legend, near, north_arrow, scale_bar, scene, short, ticks, words)
 from dig.diglist import NEW
 from dig.listing import summary
 
 WIDTH, MARGIN = 1200, 50
 INSIDE = WIDTH - 2 * MARGIN
 PROFILE = 240
-COLUMNS, GAP = 4, 20
+COLUMNS, GAP, HEAD = 4, 20, 60
 SIDE = (INSIDE - GAP * (COLUMNS - 1)) / COLUMNS
+MANY = 60  # digs: from there on marks are smaller
 
 
 def places(made):
@@ -59,18 +60,21 @@ def plan(made, top, width=INSIDE, left=MARGIN, tallest=560):
         return frame.at(place[0], place[1])
     out = [words(left, top - 8, "Plan", size=15, weight="bold"), words(left + 46, top - 8, "names are digs", size=12.5, colour="#555"),
            box(frame, "plan"), '<g clip-path="url(#plan)">']
-    out += scene(at, made.features, made.list.digs, made.list.dents, made.features["struck"], made.features["welds"], 3.5)
+    return top + frame.height, out + all_digs(made, frame, at) + [scale_bar(frame), north_arrow(frame), "</g>"]
+
+
+def all_digs(made, frame, at):
+    """Everything at its place, with the names of the digs."""
+    r = 3.5 if len(made.list.digs) < MANY else 2.2
+    out = scene(at, made.features, made.list.digs, made.list.dents, made.features["struck"], made.features["welds"], r)
     names = Names(frame)
     for dent in made.list.dents:
         if dent.state == NEW:
-            names.mark(*at(dent.feature.vertices[0]), 5)
+            names.mark(*at(dent.feature.vertices[0]), 1.7 * r)
     for dig in made.list.digs:
-        names.put(*between(at(dig.start), at(dig.end)), dig.name)
-    return top + frame.height, out + names.svg() + [scale_bar(frame), north_arrow(frame), "</g>"]
-
-
-def between(a, b):
-    return (a[0] + b[0]) / 2, (a[1] + b[1]) / 2
+        (a, b), (c, d) = at(dig.start), at(dig.end)
+        names.put((a + c) / 2, (b + d) / 2, dig.name)
+    return out + names.svg()
 
 
 def profile(made, top):
@@ -87,9 +91,11 @@ def profile(made, top):
     least = min(place[0] for place in every)
     us, vs = [way(p) for p in every], [p[2] for p in every]
     frame = Frame(MARGIN, top, INSIDE, PROFILE, us, vs, False, pad=34)
+    ratio = frame.sv / frame.su
+    larger = f"{ratio:.0f}" if ratio >= 10 else f"{ratio:.2g}"
     along = "along the pipe" if made.chainage.there() else "along x"
     out = [words(MARGIN, top - 8, "Profile", size=15, weight="bold"),
-           words(MARGIN + 62, top - 8, f"{along}, heights {frame.sv / frame.su:.2g} times as large", size=12.5, colour="#555"),
+           words(MARGIN + 62, top - 8, f"{along}, heights {larger} times as large", size=12.5, colour="#555"),
            box(frame, "profile")]
     for height in ticks(frame.v(top + PROFILE), frame.v(top), 5):
         y = frame.at(0, height)[1]
@@ -103,11 +109,7 @@ def profile(made, top):
 
     def at(place):
         return frame.at(way(place), place[2])
-    out += scene(at, made.features, made.list.digs, made.list.dents, made.features["struck"], made.features["welds"], 3.5)
-    names = Names(frame)
-    for dig in made.list.digs:
-        names.put(*between(at(dig.start), at(dig.end)), dig.name)
-    return top + PROFILE, out + names.svg() + ["</g>"]
+    return top + PROFILE, out + all_digs(made, frame, at) + ["</g>"]
 
 
 def digs(made, top):
@@ -119,12 +121,13 @@ def digs(made, top):
         out = [words(MARGIN, top - 8, "Digs", size=15, weight="bold"),
                words(MARGIN + 46, top - 8, "in plan, each to its own scale; names are dents", size=12.5, colour="#555")]
     for number, dig in enumerate(listed):
-        left, head = MARGIN + number % COLUMNS * (SIDE + GAP), top + number // COLUMNS * (SIDE + 44)
-        frame = Frame(round(left, 1), round(head + 22, 1), round(SIDE, 1), round(SIDE, 1), *spread(dig), True, pad=44)
-        out += [words(left, head + 14, dig.name, weight="bold"),
-                words(left + SIDE, head + 14, f"{dig.width:.3f} m wide, {dig.new} of {dig.count} new", anchor="end", size=12.5)]
+        left, head = MARGIN + number % COLUMNS * (SIDE + GAP), top + number // COLUMNS * (SIDE + HEAD)
+        frame = Frame(round(left, 1), round(head + 38, 1), round(SIDE, 1), round(SIDE, 1), *spread(dig), True, pad=44)
+        way = f"chainage {dig.chainage:.2f} m, " if dig.chainage is not None else ""
+        out += [words(left, head + 14, short(dig.name), weight="bold"),
+                words(left, head + 30, f"{way}{dig.width:.3f} m wide, {dig.new} of {dig.count} new", size=12)]
         out += close_up(made, dig, frame, f"dig{number}")
-    return top + math.ceil(len(listed) / COLUMNS) * (SIDE + 44) + 10, out
+    return top + math.ceil(len(listed) / COLUMNS) * (SIDE + HEAD) + 10, out
 
 
 def spread(dig):
