@@ -11,12 +11,12 @@ from ._geometry import Blobs, srid, wkb
 from ._library import LibraryMissing, load
 from ._operations import (
     NoSurface, closest_point, dfully_within, distance, dwithin, intersects, library_version, line_interpolate_point, longest_line,
-    max_distance, patch, refusal, shortest_line, sizes)
+    max_distance, patch, read, refusal, shortest_line, sizes)
 from ._refusal import Refusal
 
 __version__ = "0.2.0"
 
 __all__ = [
     "Blobs", "LibraryMissing", "NoSurface", "Refusal", "batch", "closest_point", "dfully_within", "distance", "dwithin", "intersects",
-    "library_version", "line_interpolate_point", "load", "longest_line", "max_distance", "patch", "refusal", "shortest_line", "sizes",
+    "library_version", "line_interpolate_point", "load", "longest_line", "max_distance", "patch", "read", "refusal", "shortest_line", "sizes",
     "srid", "wkb"]
