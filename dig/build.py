@@ -11,6 +11,7 @@ import hashlib
 import os
 import re
 import shutil
+import signal
 import subprocess
 import sys
 import time
@@ -109,7 +110,8 @@ def prove():
 def run(progress):
     """Runs rt; its lines go to the log, what they tell of the crates is shown."""
     with open(LOG, "w", encoding="utf-8") as log:
-        process = subprocess.Popen(["rt", "staticlib", "viskorrel"], cwd=ROOT, stdin=subprocess.DEVNULL, stdout=log, stderr=log)
+        process = subprocess.Popen(["rt", "staticlib", "viskorrel"], cwd=ROOT, stdin=subprocess.DEVNULL, stdout=log, stderr=log,
+                                   start_new_session=True)  # so that all of it can be ended
         with open(LOG, encoding="utf-8", errors="replace") as lines:
             while True:
                 try:
@@ -117,6 +119,7 @@ def run(progress):
                 except subprocess.TimeoutExpired:
                     status = None
                 except KeyboardInterrupt:
+                    os.killpg(process.pid, signal.SIGTERM)
                     process.wait()
                     raise
                 progress.read(lines.read())
