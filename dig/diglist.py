@@ -7,7 +7,7 @@ from typing import Optional
 
 from dig import matching
 from dig.geopackage import Feature
-from dig.measure import Refused, multipoint
+from dig.measure import Refusal, multipoint, told
 from dig.problems import Problems
 
 STRUCK, NEW = "struck off", "NEW"
@@ -85,7 +85,7 @@ def make(library, features, tolerance, chainage, box_test=True):
 def matched(library, dents, struck, tolerance, box_test):
     """Each dent's nearest struck-off dent; of several as near, the first by feature id."""
     listed = []
-    for dent, (at, least) in zip(dents, matching.nearest(library, dents, struck, "pairs", box_test)):
+    for dent, (at, least) in zip(dents, matching.nearest(dents, struck, "pairs", box_test)):
         if at is None:
             listed.append(Dent(dent, None, None, NEW))
         else:
@@ -106,7 +106,7 @@ def repeated(dents):
 def along(library, dents, chainage, box_test):
     """The place of the centreline nearest to each dent."""
     pieces = [Feature("centreline", at, "", chunk.blob, [(2, chunk.vertices)]) for at, chunk in enumerate(chainage.chunks)]
-    found = matching.nearest(library, [dent.feature for dent in dents], pieces, "places on the centreline", box_test)
+    found = matching.nearest([dent.feature for dent in dents], pieces, "places on the centreline", box_test)
     for dent, (at, off) in zip(dents, found):
         dent.off = off
         dent.chainage = chainage.at(library, dent.feature.blob, chainage.chunks[at])
@@ -148,8 +148,8 @@ def widths(library, groups):
         b = multipoint([vertex for weld in group.welds for vertex in weld.vertices])
         try:
             line = library.longest(a, b)
-        except Refused as refused:
-            faults.append(f"group {group.name}: {refused}")
+        except Refusal as refused:
+            faults.append(f"group {group.name}: {told(refused)}")
             continue
         if line is None or not math.isfinite(line[0]):
             faults.append(f"group {group.name}: the longest line to its weld is " + ("none" if line is None else str(line[0])))

@@ -5,7 +5,7 @@ import struct
 from dataclasses import dataclass
 
 from dig import reference
-from dig.measure import Refused
+from dig.measure import Refusal, told
 from dig.opening import Opened
 from dig.problems import Problems
 
@@ -125,8 +125,8 @@ class GeoPackage:
                     faults.append(f"{where}: the {what} {said!r} has a character that cannot be printed")
             try:
                 runs = library.read(blob)
-            except Refused as refused:
-                faults.append(f"{where}: {refused}")
+            except Refusal as refused:
+                faults.append(f"{where}: {told(refused)}")
                 continue
             feature = Feature(table, id, name, blob, runs, called)
             if blob[:2] == b"GP" and struct.unpack_from("<i" if blob[3] & 1 else ">i", blob, 4)[0] != srid:

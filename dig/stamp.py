@@ -4,8 +4,8 @@ import os
 from dataclasses import dataclass
 from typing import Optional
 
-from dig import build
 from dig.opening import hashed
+from viskorrel import __version__
 
 
 @dataclass
@@ -37,15 +37,7 @@ class Stamp:
 
 def of(opened, tolerance, system, library):
     made = datetime.datetime.now().astimezone().isoformat(" ", "seconds")
-    return Stamp(os.path.basename(opened.path), opened.sha256, opened.log_sha256, made, tolerance, system, program(), version(library))
-
-
-def program():
-    path = os.path.join(build.ROOT, "VERSION")
-    if not os.path.exists(path):
-        return "of no version"
-    with open(path) as file:
-        return file.read().strip()
+    return Stamp(os.path.basename(opened.path), opened.sha256, opened.log_sha256, made, tolerance, system, __version__, version(library))
 
 
 def version(library):
