@@ -5,7 +5,7 @@ from dataclasses import dataclass
 from typing import Optional
 
 from dig.opening import hashed
-from viskorrel import __version__
+from viskorrel import __version__, library_version
 
 
 @dataclass
@@ -35,11 +35,11 @@ class Stamp:
         return "; ".join(f"{name} {value}" for name, value in self.rows())
 
 
-def of(opened, tolerance, system, library):
+def of(opened, tolerance, system, path):
     made = datetime.datetime.now().astimezone().isoformat(" ", "seconds")
-    return Stamp(os.path.basename(opened.path), opened.sha256, opened.log_sha256, made, tolerance, system, __version__, version(library))
+    return Stamp(os.path.basename(opened.path), opened.sha256, opened.log_sha256, made, tolerance, system, __version__, library(path))
 
 
-def version(library):
+def library(path):
     """The library's version, and the start of its sum: two builds of one version differ in it."""
-    return f"{library.version()}, SHA-256 {hashed(library.path)[:16]}"
+    return f"{library_version()}, SHA-256 {hashed(path)[:16]}"

@@ -73,8 +73,8 @@ int viskorrel_batch(
     uint32_t operation, const viskorrel_blobs *a, const viskorrel_blobs *b, const viskorrel_pairs *pairs, const viskorrel_answers *answers);
 
 /*
- * BOXES. Six numbers for each blob: least x, y, z, greatest x, y, z of its coordinates. A blob that is refused, has a ring, no coordinate,
- * or a coordinate above 1e30 in size gets the box of everything (minus infinity to infinity), which is never passed over.
+ * BOXES. Six numbers for each blob: least x, y, z, greatest x, y, z of its coordinates. A blob that is refused, has a ring, neither point nor
+ * segment, or a coordinate above 1e30 in size gets the box of everything (minus infinity to infinity), which is never passed over.
  */
 int viskorrel_boxes(const viskorrel_blobs *blobs, double *boxes);
 

@@ -267,11 +267,15 @@ static void everything(double *box)
 static int span(const struct side *side, double *box)
 {
     viskorrel_pair sizes = viskorrel_sizes(side->blob, side->length);
+    int measurable = 0;
     size_t k;
 
-    for (k = 0; k < sizes.second; k += 2)
+    for (k = 0; k < sizes.second; k += 2) {
         if (side->workspace.table[k] > 2) /* neither points nor a line */
             return 0;
+        if (side->workspace.table[k] == 1 || side->workspace.table[k + 1] > 1) /* a line of one vertex has no segment */
+            measurable = 1;
+    }
     for (k = 0; k < sizes.first; k++) {
         double number = side->workspace.floats[k];
 
@@ -282,7 +286,7 @@ static int span(const struct side *side, double *box)
         if (k < 3 || number > box[k % 3 + 3])
             box[k % 3 + 3] = number;
     }
-    return sizes.first > 0;
+    return measurable;
 }
 
 EXPORTED int viskorrel_boxes(const viskorrel_blobs *blobs, double *boxes)

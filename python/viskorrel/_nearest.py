@@ -1,5 +1,4 @@
 """The nearest of many: each geometry of one sequence against all of another, in C, on all processors."""
-import concurrent.futures
 import ctypes
 import math
 import os
@@ -11,7 +10,7 @@ from ._refusal import Refusal
 from .batch import DONE, NO_MEMORY, listed
 
 PAIRS = 1 << 19    # in one call of C, if they are all measured: between calls progress is told and Ctrl-C is heard
-ALONE = 1 << 15    # fewer pairs are not worth a thread
+ALONE = {True: 1 << 21, False: 1 << 15}  # fewer pairs, with boxes and without, are not worth a thread
 
 
 class Nearest:
@@ -53,7 +52,7 @@ def nearest(a, b, boxes=True, threads=None, progress=None):
     a, b = (part if isinstance(part, Blobs) else Blobs(part) for part in (a, b))
     answers = Nearest(len(a))
     if len(a) and len(b):
-        run(a, b, answers, boxes, threads or processors(), progress or (lambda done: None))
+        run(a, b, answers, bool(boxes), threads or processors(), progress or (lambda done: None))
     answers.finish(a, b)
     return answers
 
@@ -77,11 +76,12 @@ def run(a, b, answers, boxes, threads, progress):
         return end - start
 
     starts, done = range(0, len(a), step), 0
-    if threads == 1 or len(a) * len(b) < ALONE:
+    if threads == 1 or len(a) * len(b) < ALONE[boxes]:
         for start in starts:
             done += part(start)
             progress(done)
         return
+    import concurrent.futures  # here, since a small job has no use for it
     with concurrent.futures.ThreadPoolExecutor(threads) as pool:
         parts = [pool.submit(part, start) for start in starts]
         try:

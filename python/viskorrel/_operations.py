@@ -1,5 +1,6 @@
 """The operations on one or two geometries."""
 import ctypes
+import struct
 import threading
 
 from ._geometry import blob
@@ -7,6 +8,7 @@ from ._library import ANSWERED, LINE_BYTES, NO_SURFACE, POINT_BYTES, REFUSED, li
 from ._refusal import Refusal
 
 TOO_SHORT = 15  # the refusal of a workspace
+POINT = struct.pack("<BI3d", 1, 1001, 0, 0, 0)  # a geometry to measure against where any will do
 
 
 class Memory(threading.local):
@@ -129,6 +131,23 @@ def refusal(geometry):
     if reply.outcome != ANSWERED:
         raise MemoryError
     return None
+
+
+def read(geometry):
+    """The points, lines and rings of a geometry with Z, as the library reads them: a list of (kind, vertices).
+
+    kind is 1 for a point, 2 for a line, 3 for a polygon's ring, 17 for a triangle's; a vertex is (x, y, z).
+    """
+    geometry = blob(geometry)
+    ask("viskorrel_3d_max_distance", (geometry, POINT))  # reads it into the first workspace
+    floats, table = MEMORY.sides[0]
+    runs, at = [], 0
+    for place in range(0, sizes(geometry)[1], 2):
+        kind, count = table[place:place + 2]
+        ordinates = floats[at:at + 3 * count]
+        runs.append((kind, list(zip(ordinates[0::3], ordinates[1::3], ordinates[2::3]))))
+        at += 3 * count
+    return runs
 
 
 def sizes(geometry):
