@@ -4,20 +4,38 @@ import math
 from dataclasses import dataclass
 
 from dig.geopackage import LINE
-from dig.measure import line
+from dig.measure import line, shortest
 
-CHUNK = 32    # segments that are measured in one call
+CHUNK = 32     # segments with one box, where the foot in plan is looked for
 JOINED = 0.01  # metres between the end of a run and the start of the next that follows it
 
 
 @dataclass
-class Chunk:
-    """Some segments of a run, and the chainage at which each starts."""
-    vertices: list
-    ways: list
-    blob: bytes
-    low: tuple
-    high: tuple
+class Segment:
+    """A piece of the centreline that is measured by itself; `start` and `end` are the chainages of its ends."""
+    id: int
+    a: tuple
+    b: tuple
+    start: float
+    end: float
+    table: str = "centreline"
+
+    @property
+    def blob(self):
+        return line([self.a, self.b])
+
+    def chainage(self, blob):
+        """Of the place that is nearest to a blob in 3D."""
+        return self.foot(shortest(blob, self.blob)[1], 3)[1]
+
+    def foot(self, place, axes):
+        """The distance of a place in so many axes, and the chainage there."""
+        step = [q - p for p, q in zip(self.a[:axes], self.b)]
+        long = sum(s * s for s in step)
+        t = sum((p - q) * s for p, q, s in zip(place, self.a, step)) / long if long > 0 else 0.0
+        t = min(1.0, max(0.0, t))
+        off = math.sqrt(sum((q + t * s - p) ** 2 for p, q, s in zip(place, self.a, step)))
+        return off, self.start + t * (self.end - self.start)
 
 
 class Chainage:
@@ -25,51 +43,32 @@ class Chainage:
         """`pipe`: the features of the centreline; without a line in them there is no chainage."""
         runs = [run for feature in pipe for kind, run in feature.runs if kind == LINE and len(run) > 1]
         runs, self.gaps = in_order(runs)
-        self.chunks, way = [], 0.0
+        self.segments, way = [], 0.0
         for run in runs:
-            ways = [way]
             for a, b in zip(run, run[1:]):
-                way += math.hypot(b[0] - a[0], b[1] - a[1])
-                ways.append(way)
-            for at in range(0, len(run) - 1, CHUNK):
-                part = run[at:at + CHUNK + 1]
-                self.chunks.append(Chunk(part, ways[at:at + CHUNK + 1], line(part),
-                                         tuple(map(min, zip(*part))), tuple(map(max, zip(*part)))))
-        self.length = way
+                end = way + math.hypot(b[0] - a[0], b[1] - a[1])
+                self.segments.append(Segment(len(self.segments), a, b, way, end))
+                way = end
+        self._chunks = None
 
     def there(self):
-        return bool(self.chunks)
-
-    def at(self, library, blob, chunk):
-        """The chainage of the place of a chunk that is nearest to a blob in 3D."""
-        return walked(chunk, library.shortest(blob, chunk.blob)[1], 3)
+        return bool(self.segments)
 
     def of(self, place):
         """The chainage of the foot of a place in plan."""
+        if self._chunks is None:
+            self._chunks = [chunk(self.segments[at:at + CHUNK]) for at in range(0, len(self.segments), CHUNK)]
         best = (math.inf, None)
-        for chunk in self.chunks:
-            gap = math.hypot(*(max(low - p, p - high, 0.0) for low, p, high in zip(chunk.low[:2], place, chunk.high[:2])))
-            if gap < best[0]:
-                best = min(best, foot(chunk, place, 2), key=lambda found: found[0])
+        for low, high, segments in self._chunks:
+            if math.hypot(*(max(least - p, p - most, 0.0) for least, p, most in zip(low, place, high))) < best[0]:
+                best = min([best, *(segment.foot(place, 2) for segment in segments)], key=lambda found: found[0])
         return best[1]
 
 
-def foot(chunk, place, axes):
-    """The least distance of a place to a chunk in so many axes, and the chainage there."""
-    best = (math.inf, 0.0)
-    for a, b, start, end in zip(chunk.vertices, chunk.vertices[1:], chunk.ways, chunk.ways[1:]):
-        step = [q - p for p, q in zip(a[:axes], b)]
-        long = sum(s * s for s in step)
-        t = sum((p - q) * s for p, q, s in zip(place, a, step)) / long if long > 0 else 0.0
-        t = min(1.0, max(0.0, t))
-        off = math.sqrt(sum((q + t * s - p) ** 2 for p, q, s in zip(place, a, step)))
-        if off < best[0]:
-            best = (off, start + t * (end - start))
-    return best
-
-
-def walked(chunk, place, axes):
-    return foot(chunk, place, axes)[1]
+def chunk(segments):
+    """Segments with the box around them in plan."""
+    axes = list(zip(*(place[:2] for segment in segments for place in (segment.a, segment.b))))
+    return tuple(map(min, axes)), tuple(map(max, axes)), segments
 
 
 def in_order(runs):

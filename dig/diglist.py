@@ -1,14 +1,14 @@
 """The dig list: each dent with its nearest struck-off dent; each dent group with the longest line to its weld."""
 import math
 import re
-import statistics
 from dataclasses import dataclass, field
 from typing import Optional
 
-from dig import matching
+from dig import matching, measure
 from dig.geopackage import Feature
-from dig.measure import Refused, multipoint
+from dig.measure import multipoint, told
 from dig.problems import Problems
+from viskorrel import Refusal, dwithin
 
 STRUCK, NEW = "struck off", "NEW"
 FAR_OUT = 3       # times the usual width
@@ -67,14 +67,14 @@ class DigList:
         return sum(dent.same_as is None and dent.state == NEW for dent in self.dents)
 
 
-def make(library, features, tolerance, chainage, box_test=True):
+def make(features, tolerance, chainage, box_test=True):
     """`features`: lists by role. `chainage`: of the centreline."""
-    dents = matched(library, features["dents"], features["struck"], tolerance, box_test)
+    dents = matched(features["dents"], features["struck"], tolerance, box_test)
     repeated(dents)
     if chainage.there():
-        along(library, dents, chainage, box_test)
+        along(dents, chainage, box_test)
     groups = by_group(dents, features["welds"])
-    widths(library, groups)
+    widths(groups)
     groups.sort(key=place_in_list)
     listed = DigList([dent for group in groups for dent in group.dents], [group for group in groups if group.new],
                      [group for group in groups if not group.new], [], chainage.there())
@@ -82,14 +82,14 @@ def make(library, features, tolerance, chainage, box_test=True):
     return listed
 
 
-def matched(library, dents, struck, tolerance, box_test):
+def matched(dents, struck, tolerance, box_test):
     """Each dent's nearest struck-off dent; of several as near, the first by feature id."""
     listed = []
-    for dent, (at, least) in zip(dents, matching.nearest(library, dents, struck, "pairs", box_test)):
+    for dent, (at, least) in zip(dents, matching.nearest(dents, struck, "pairs", box_test)):
         if at is None:
             listed.append(Dent(dent, None, None, NEW))
         else:
-            state = STRUCK if library.within(dent.blob, struck[at].blob, tolerance) else NEW
+            state = STRUCK if dwithin(dent.blob, struck[at].blob, tolerance) else NEW
             listed.append(Dent(dent, struck[at], least, state))
     return listed
 
@@ -103,13 +103,11 @@ def repeated(dents):
             dent.same_as = first
 
 
-def along(library, dents, chainage, box_test):
+def along(dents, chainage, box_test):
     """The place of the centreline nearest to each dent."""
-    pieces = [Feature("centreline", at, "", chunk.blob, [(2, chunk.vertices)]) for at, chunk in enumerate(chainage.chunks)]
-    found = matching.nearest(library, [dent.feature for dent in dents], pieces, "places on the centreline", box_test)
+    found = matching.nearest([dent.feature for dent in dents], chainage.segments, "places on the centreline", box_test)
     for dent, (at, off) in zip(dents, found):
-        dent.off = off
-        dent.chainage = chainage.at(library, dent.feature.blob, chainage.chunks[at])
+        dent.off, dent.chainage = off, chainage.segments[at].chainage(dent.feature.blob)
 
 
 def by_group(dents, welds):
@@ -136,7 +134,7 @@ def natural(name):
     return [(0, int(part), "") if part.isdecimal() else (1, 0, part) for part in re.split(r"(\d+)", name) if part]
 
 
-def widths(library, groups):
+def widths(groups):
     """The longest line from all dents of a group, struck off or not, to its weld (all its features, where there are several)."""
     faults = []
     for group in groups:
@@ -147,9 +145,9 @@ def widths(library, groups):
         a = multipoint([vertex for dent in group.dents for vertex in dent.feature.vertices])
         b = multipoint([vertex for weld in group.welds for vertex in weld.vertices])
         try:
-            line = library.longest(a, b)
-        except Refused as refused:
-            faults.append(f"group {group.name}: {refused}")
+            line = measure.longest(a, b)
+        except Refusal as refused:
+            faults.append(f"group {group.name}: {told(refused)}")
             continue
         if line is None or not math.isfinite(line[0]):
             faults.append(f"group {group.name}: the longest line to its weld is " + ("none" if line is None else str(line[0])))
@@ -249,7 +247,7 @@ def of_widths(groups):
     smaller = sorted(group.width for group in wide)[:len(wide) // 2]
     if not smaller:
         return []
-    usual = statistics.median_low(smaller)
+    usual = median(smaller)
     found = []
     for group in wide:
         if group.width > FAR_OUT * usual and group.width > usual + 1:
@@ -263,7 +261,7 @@ def of_exchanged(groups):
     """Two groups, each nearer to the other's weld than to its own."""
     known = [(group, middle(group.dents[0].feature.vertices), middle(group.welds[0].vertices)) for group in groups if group.welds]
     own = [math.dist(dent, weld) for _, dent, weld in known]
-    limit = statistics.median_low(own) if own else 0
+    limit = median(own) if own else 0
     long = [(known[at], own[at]) for at in range(len(known)) if own[at] >= limit]
     found = []
     for at, ((a, dent_a, weld_a), own_a) in enumerate(long):
@@ -277,7 +275,12 @@ def of_exchanged(groups):
 
 
 def middle(places):
-    return tuple(statistics.fmean(axis) for axis in zip(*places))
+    return tuple(sum(axis) / len(places) for axis in zip(*places))
+
+
+def median(numbers):
+    """Of two in the middle the lower."""
+    return sorted(numbers)[(len(numbers) - 1) // 2]
 
 
 def of_pipe(dents, chainage):

@@ -5,9 +5,10 @@ import struct
 from dataclasses import dataclass
 
 from dig import reference
-from dig.measure import Refused
+from dig.measure import told
 from dig.opening import Opened
 from dig.problems import Problems
+from viskorrel import Refusal, read
 
 LINE = 2
 
@@ -103,7 +104,7 @@ class GeoPackage:
             raise Problems(f"{table}: no column {asked} for the label (--label names one); columns: {', '.join(names)}")
         return found[0] if found else None
 
-    def features(self, library, table, group=None, label=None):
+    def features(self, table, group=None, label=None):
         """The features of a table by id, each read by the library; and the faults, one line for each."""
         column, srid = self.tables[table]
         keys = [row[1] for row in self.columns(table) if row[5]]
@@ -124,9 +125,9 @@ class GeoPackage:
                 if not said.isprintable():
                     faults.append(f"{where}: the {what} {said!r} has a character that cannot be printed")
             try:
-                runs = library.read(blob)
-            except Refused as refused:
-                faults.append(f"{where}: {refused}")
+                runs = read(blob)
+            except Refusal as refused:
+                faults.append(f"{where}: {told(refused)}")
                 continue
             feature = Feature(table, id, name, blob, runs, called)
             if blob[:2] == b"GP" and struct.unpack_from("<i" if blob[3] & 1 else ">i", blob, 4)[0] != srid:

@@ -5,11 +5,12 @@ import os
 import sqlite3
 import sys
 
-from dig import bounds, copies, listing, stamp
+from dig import bounds, copies, listing
 from dig.copies import ORIGIN, RECORD
 from dig.geopackage import quoted
 from dig.outputs import Outputs
 from dig.problems import Problems
+from viskorrel import __version__
 
 HELP = """\
 Joins copies of a GeoPackage file that were changed apart into a new file; no input is touched.
@@ -91,7 +92,7 @@ class Record:
 
     def __init__(self, files):
         self.made = datetime.datetime.now().astimezone().isoformat(" ", "seconds")
-        self.program = stamp.program()
+        self.program = __version__
         self.files = [("base" if at == 0 else "copy", file.name, file.opened.sha256 + (f"+{file.opened.log_sha256}" if file.opened.log_sha256 else ""))
                       for at, file in enumerate(files)]
 

@@ -7,13 +7,12 @@ import sqlite3
 import sys
 from dataclasses import dataclass
 
-from dig import build, corridor, diglist, join, layers, listing, page, picture, stamp
+import viskorrel
+from dig import build, diglist, listing, stamp
 from dig.chainage import Chainage
 from dig.geopackage import GeoPackage
-from dig.measure import Library
 from dig.outputs import Outputs
 from dig.problems import Problems
-from viskorrel import __version__
 
 ROLES = {
     "dents": ["dents", "dent"], "struck": ["struck_off", "struck", "struck_dents"], "welds": ["welds", "weld"],
@@ -65,7 +64,7 @@ def parser():
         options.add_argument(f"--{form}", metavar="FILE", help=use)
     options.add_argument("--no-box-test", action="store_true", help=argparse.SUPPRESS)  # measures every pair; the list is the same
     options.add_argument("--library", metavar="PATH", help=f"{build.NAME}, or the folder that has it; default: {build.VARIABLE}, else {build.USUAL}")
-    options.add_argument("--version", action="version", version=f"viskorrel {__version__}")
+    options.add_argument("--version", action="version", version=f"viskorrel {viskorrel.__version__}")
     return options
 
 
@@ -73,7 +72,11 @@ def main(words):
     joining = words[:1] == ["join"]
     signal.signal(signal.SIGTERM, stopped)  # so that what was begun is removed
     try:
-        (join.command if joining else command)(words[1:] if joining else words)
+        if joining:
+            from dig import join  # what a run does not need is not loaded
+            join.command(words[1:])
+        else:
+            command(words)
         return 0
     except (Problems, OSError, sqlite3.Error) as fault:
         lines, status = getattr(fault, "lines", [str(fault)]), 1
@@ -103,7 +106,9 @@ def command(words):
         raise
     if asked.file == "demo":
         demo(asked)
-    layers.ours_or_none(asked.gpkg)
+    if asked.gpkg:
+        from dig import layers
+        layers.ours_or_none(asked.gpkg)
     with Outputs([path for path in (getattr(asked, form) for form in FORMS) if path], [asked.file]) as outputs:
         package = GeoPackage(asked.file)
         try:
@@ -132,10 +137,11 @@ def outdated(words):
 
 
 def demo(asked):
+    from dig import corridor
     folder = asked.folder or build.DEMO
     os.makedirs(folder, exist_ok=True)
     asked.file = os.path.join(folder, "corridor.gpkg")
-    if os.path.exists(asked.file) and not ours(asked.file):
+    if os.path.exists(asked.file) and not ours(asked.file, corridor.IDENTIFIER):
         raise Problems(f"{asked.file} is there and is not the demo's: it is left alone")
     build.library(asked.library)
     corridor.make(asked.file)
@@ -143,11 +149,11 @@ def demo(asked):
         setattr(asked, form, getattr(asked, form) or os.path.join(folder, f"dig.{form}"))
 
 
-def ours(path):
+def ours(path, identifier):
     """Whether the demo made a file."""
     file = sqlite3.connect(path)
     try:
-        return file.execute("SELECT count(*) FROM gpkg_contents WHERE description <> ?", (corridor.IDENTIFIER,)).fetchone()[0] == 0
+        return file.execute("SELECT count(*) FROM gpkg_contents WHERE description <> ?", (identifier,)).fetchone()[0] == 0
     except sqlite3.Error:
         return False
     finally:
@@ -170,19 +176,19 @@ def make(asked, package):
     labels = {role: package.label_column(tables[role], asked.label, role == "dents") for role in ("dents", "struck")}
     there = [table for table in tables.values() if table]
     system = package.metres(there, asked.metres)
-    library = Library(build.library(asked.library))
+    library = viskorrel.load(build.library(asked.library))
     features, faults = {}, []
     for role, table in tables.items():
-        features[role], found = package.features(library, table, groups.get(role), labels.get(role)) if table else ([], [])
+        features[role], found = package.features(table, groups.get(role), labels.get(role)) if table else ([], [])
         faults += found
     if faults:
         raise Problems(*faults)
     chainage = Chainage(features["pipe"])
     if asked.pipe and not chainage.there():
         raise Problems(f"{tables['pipe']}: there is no line in it, so it is no centreline")
-    listed = diglist.make(library, features, asked.tolerance, chainage, not asked.no_box_test)
+    listed = diglist.make(features, asked.tolerance, chainage, not asked.no_box_test)
     listed.warnings = package.opened.warnings + listed.warnings
-    listed.stamp = stamp.of(package.opened, asked.tolerance, system, library)
+    listed.stamp = stamp.of(package.opened, asked.tolerance, system, library.path)
     for line in listed.warnings:
         print(f"warning: {line}", file=sys.stderr)
     srids = dict.fromkeys(package.tables[table][1] for table in there)
@@ -204,8 +210,11 @@ def write(asked, made, outputs):
     if asked.csv:
         outputs.text(asked.csv, listing.table(made.list))
     if asked.svg:
+        from dig import picture
         outputs.text(asked.svg, picture.draw(made))
     if asked.html:
+        from dig import page
         outputs.text(asked.html, page.draw(made, asked.tolerance))
     if asked.gpkg:
+        from dig import layers
         outputs.add(asked.gpkg, lambda path: layers.write(path, made))

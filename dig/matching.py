@@ -1,60 +1,55 @@
-"""The nearest of many: each feature of one list against all of another, measured by the library."""
-import math
+"""The nearest of many: each feature of one list against all of another, measured by the library, with progress."""
 import sys
 import time
 
-from dig.measure import Refused
+import viskorrel
+from dig.measure import told
 from dig.problems import Problems
 
-EVERY = 100_000  # pairs between lines of progress where stderr is no terminal
+WAIT = 0.3      # seconds between signs of progress on a terminal
+TOLD = 5.0      # and elsewhere
 
 
 class Progress:
-    def __init__(self, whole, noun):
-        self.whole, self.noun, self.shown, self.terminal = whole, noun, time.monotonic(), sys.stderr.isatty()
-        self.next, self.open = EVERY, False
+    """How many of the pairs are done, and the time left; nothing is said of what is done at once."""
 
-    def at(self, done):
-        if self.terminal:
-            now = time.monotonic()
-            if now - self.shown > 0.2:
-                self.shown, self.open = now, True
-                print(f"\r{done:,} of {self.whole:,} {self.noun}", end="", file=sys.stderr, flush=True)
-        elif done >= self.next:
-            self.next = done - done % EVERY + EVERY
-            print(f"{done:,} of {self.whole:,} {self.noun}", file=sys.stderr, flush=True)
+    def __init__(self, rows, columns, noun):
+        self.whole, self.columns, self.noun, self.start = rows * columns, columns, noun, time.monotonic()
+        self.terminal, self.shown = sys.stderr.isatty(), time.monotonic()
+
+    def at(self, rows):
+        now, done = time.monotonic(), rows * self.columns
+        if now - self.shown < (WAIT if self.terminal else TOLD) or done >= self.whole:
+            return
+        self.shown = now
+        left = (now - self.start) * (self.whole - done) / done
+        line = f"{done:,} of {self.whole:,} {self.noun}, about {left:.0f} s left"
+        print(f"\r\033[K{line}" if self.terminal else line, end="" if self.terminal else "\n", file=sys.stderr, flush=True)
 
     def end(self):
-        if self.open:
+        if self.terminal and self.shown > self.start + WAIT / 2:
             print("\r\033[K", end="", file=sys.stderr, flush=True)
 
 
-def nearest(library, ones, many, noun, box_test=True):
+def nearest(ones, many, noun, box_test=True):
     """For each of `ones` the place in `many` of the nearest, the first of several as near, and the distance; (None, None) if `many` is empty."""
-    found, faults = [], []
-    progress = Progress(len(ones) * len(many), noun)
+    if not many:
+        return [(None, None)] * len(ones)
+    progress = Progress(len(ones), len(many), noun)
     try:
-        for number, one in enumerate(ones):
-            at, least = None, math.inf
-            for place, other in enumerate(many):
-                try:
-                    distance = library.distance(one.blob, other.blob)
-                except Refused as refused:
-                    faults.append(f"{pair(one, other)}: {refused}")
-                    break
-                if distance is None or not math.isfinite(distance):
-                    faults.append(f"{pair(one, other)}: " + ("there is no distance" if distance is None else f"the distance is {distance}"))
-                    break
-                if distance < least:
-                    at, least = place, distance
-            found.append((at, None if at is None else least))
-            progress.at((number + 1) * len(many))
+        found = viskorrel.nearest([one.blob for one in ones], [other.blob for other in many], boxes=box_test, progress=progress.at)
     finally:
         progress.end()
-    if faults:
-        raise Problems(*faults)
-    return found
+    if found.faults:
+        raise Problems(*[f"{pair(ones[at], many[place])}: {words(fault)}" for at, (place, fault) in sorted(found.faults.items())])
+    return list(zip(found.places, found.distances))
 
 
 def pair(one, other):
     return f"{one.table}, feature {one.id} with {other.table}, feature {other.id}"
+
+
+def words(fault):
+    if isinstance(fault, viskorrel.Refusal):
+        return told(fault)
+    return "there is no distance" if fault is None else f"the distance is {fault}"

@@ -1,9 +1,7 @@
 """A GeoPackage file opened for reading: nothing is written beside it, and it is known which bytes were read."""
 import hashlib
 import os
-import shutil
 import sqlite3
-import tempfile
 import urllib.parse
 
 from dig.problems import Problems
@@ -63,6 +61,8 @@ class Opened:
 
     def _copied(self):
         """A copy with its log, in a folder of its own: there SQLite may write."""
+        import shutil
+        import tempfile
         self._folder = tempfile.mkdtemp(prefix="viskorrel")
         copy = os.path.join(self._folder, "copy.gpkg")
         for end in ("", "-wal"):
@@ -94,6 +94,7 @@ class Opened:
             self.file.close()
             self.file = None
         if self._folder:
+            import shutil
             shutil.rmtree(self._folder, ignore_errors=True)
             self._folder = None
 

@@ -4,8 +4,8 @@ import os
 from dataclasses import dataclass
 from typing import Optional
 
-from dig import build
 from dig.opening import hashed
+from viskorrel import __version__, library_version
 
 
 @dataclass
@@ -35,19 +35,11 @@ class Stamp:
         return "; ".join(f"{name} {value}" for name, value in self.rows())
 
 
-def of(opened, tolerance, system, library):
+def of(opened, tolerance, system, path):
     made = datetime.datetime.now().astimezone().isoformat(" ", "seconds")
-    return Stamp(os.path.basename(opened.path), opened.sha256, opened.log_sha256, made, tolerance, system, program(), version(library))
+    return Stamp(os.path.basename(opened.path), opened.sha256, opened.log_sha256, made, tolerance, system, __version__, library(path))
 
 
-def program():
-    path = os.path.join(build.ROOT, "VERSION")
-    if not os.path.exists(path):
-        return "of no version"
-    with open(path) as file:
-        return file.read().strip()
-
-
-def version(library):
+def library(path):
     """The library's version, and the start of its sum: two builds of one version differ in it."""
-    return f"{library.version()}, SHA-256 {hashed(library.path)[:16]}"
+    return f"{library_version()}, SHA-256 {hashed(path)[:16]}"

@@ -73,6 +73,36 @@ int viskorrel_batch(
     uint32_t operation, const viskorrel_blobs *a, const viskorrel_blobs *b, const viskorrel_pairs *pairs, const viskorrel_answers *answers);
 
 /*
+ * BOXES. Six numbers for each blob: least x, y, z, greatest x, y, z of its coordinates. A blob that is refused, has a ring, neither point nor
+ * segment, or a coordinate above 1e30 in size gets the box of everything (minus infinity to infinity), which is never passed over.
+ */
+int viskorrel_boxes(const viskorrel_blobs *blobs, double *boxes);
+
+/*
+ * Where the answers of viskorrel_nearest go, element by element. Outcome VISKORREL_ANSWERED: places has the place of the nearest in b,
+ * values the distance. Where a pair is refused, has no distance, or one that is not finite, the element ends there: places has that pair's
+ * place, and outcomes, numbers, sides and values what it gave. Where b is empty, the outcome is VISKORREL_NOTHING and the place 0.
+ * measured counts the pairs that were measured.
+ */
+typedef struct viskorrel_nearest_answers {
+    uint8_t *outcomes;
+    uint8_t *numbers;
+    uint8_t *sides;
+    double *values;
+    size_t *places;
+    size_t *measured;
+} viskorrel_nearest_answers;
+
+/*
+ * For each blob of a from..to the nearest of b by viskorrel_3d_distance, the first of several as near. With boxes (of viskorrel_boxes, both
+ * or none) a pair is passed over where its boxes alone show that its distance, as it would be computed, is above the least so far. The
+ * answers are the same with boxes and without them (shared/batch.c says why), pairs that are measured aside.
+ */
+int viskorrel_nearest(
+    const viskorrel_blobs *a, const viskorrel_blobs *b, const double *a_boxes, const double *b_boxes, size_t from, size_t to,
+    const viskorrel_nearest_answers *answers);
+
+/*
  * Why a blob can't be a side of an operation on two blobs: outcome VISKORREL_REFUSED with the number that the operation gives, else
  * VISKORREL_ANSWERED. VISKORREL_NOTHING: there was no memory to look.
  */

@@ -41,11 +41,13 @@ def refused_blobs(t):
         t.no_list(name, t.changed((f"UPDATE {table} SET geom = ? WHERE fid = ?", change(blob), id)), f"{table}, feature {id}: {words}")
     damaged("dents", 4, "version", put(2, 1), "refusal 4: GeoPackage header: the version is not 0")
     damaged("dents", 4, "byte order", put(8, 7), "refusal 10: a byte order is above 1")
-    damaged("struck_off", 2, "unknown kind", put(9, 0xF2), "refusal 11: a geometry has an unknown kind")
+    damaged("struck_off", 2, "unknown kind", put(9, 0xF2), "refusal 11: a geometry has an unknown kind; if it is a curve, "
+            "ogr2ogr -nlt CONVERT_TO_LINEAR -nlt LINESTRING makes lines of it (of a face: -nlt POLYGON)")
     damaged("struck_off", 6, "short header", lambda blob: blob[:5], 'refusal 3: the blob starts with "GP" and has under 8 bytes')
     damaged("welds", 3, "cut off", lambda blob: blob[:-1],
             "refusal 9: a geometry's header, an SRID, a count or a run of coordinates is longer than the bytes left")
-    damaged("dents", 10, "no Z", lambda blob: blob[:8] + struct.pack("<BI2d", 1, 1, 1, 2), "refusal 13: the geometry has no Z")
+    damaged("dents", 10, "no Z", lambda blob: blob[:8] + struct.pack("<BI2d", 1, 1, 1, 2), "refusal 13: operations on two blobs: the type at the top has no Z; "
+            "ogr2ogr -zfield COLUMN takes heights from a column")
     damaged("fittings", 1, "fitting", put(3, 0xC1), "refusal 6: GeoPackage header: a reserved bit is set")
     damaged("dents", 3, "NaN", lambda blob: point(math.nan, 0, 0), "a coordinate is NaN or infinite")
     damaged("struck_off", 1, "empty", lambda blob: blob[:8] + struct.pack("<BII", 1, 1004, 0), "the geometry is empty")

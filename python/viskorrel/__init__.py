@@ -9,6 +9,7 @@ A geometry is bytes (GeoPackage blob, WKB or EWKB) or shapely's. Bytes that can'
 from . import batch
 from ._geometry import Blobs, srid, wkb
 from ._library import LibraryMissing, load
+from ._nearest import Nearest, nearest
 from ._operations import (
     NoSurface, closest_point, dfully_within, distance, dwithin, intersects, library_version, line_interpolate_point, longest_line,
     max_distance, patch, read, refusal, shortest_line, sizes)
@@ -17,6 +18,6 @@ from ._refusal import Refusal
 __version__ = "0.2.0"
 
 __all__ = [
-    "Blobs", "LibraryMissing", "NoSurface", "Refusal", "batch", "closest_point", "dfully_within", "distance", "dwithin", "intersects",
-    "library_version", "line_interpolate_point", "load", "longest_line", "max_distance", "patch", "read", "refusal", "shortest_line", "sizes",
-    "srid", "wkb"]
+    "Blobs", "LibraryMissing", "Nearest", "NoSurface", "Refusal", "batch", "closest_point", "dfully_within", "distance", "dwithin", "intersects",
+    "library_version", "line_interpolate_point", "load", "longest_line", "max_distance", "nearest", "patch", "read", "refusal", "shortest_line",
+    "sizes", "srid", "wkb"]

@@ -33,6 +33,10 @@ class AnswerArrays(ctypes.Structure):
     _fields_ = [("outcomes", address), ("numbers", address), ("sides", address), ("values", address), ("output", address)]
 
 
+class NearestArrays(ctypes.Structure):
+    _fields_ = [(name, address) for name in ("outcomes", "numbers", "sides", "values", "places", "measured")]
+
+
 BLOB = [ctypes.c_char_p, size]  # the address of the bytes themselves; they are only read
 WORKSPACE = [address, size, address, size]
 OUTPUT = [address, size]
@@ -52,6 +56,8 @@ FUNCTIONS = {
     "viskorrel_3d_line_interpolate_point": (Reply, BLOB + NUMBER + WORKSPACE + OUTPUT),
     "viskorrel_patch": (Pair, BLOB + [ctypes.c_uint64]),
     "viskorrel_batch": (ctypes.c_int, [ctypes.c_uint32] + [address] * 4),
+    "viskorrel_boxes": (ctypes.c_int, [address] * 2),
+    "viskorrel_nearest": (ctypes.c_int, [address] * 4 + [size] * 2 + [address]),
     "viskorrel_blob_refusal": (Reply, BLOB),
     "viskorrel_version": (ctypes.c_char_p, []),
     "viskorrel_words": (ctypes.c_char_p, [ctypes.c_uint32]),

@@ -11,10 +11,7 @@ from ._geometry import Blobs, is_one
 from ._library import ANSWERED, LINE_BYTES, POINT_BYTES, REFUSED, AnswerArrays, BlobList, Elements, library
 from ._refusal import Refusal
 
-try:
-    import numpy
-except ImportError:
-    numpy = None
+numpy = None  # looked for when the first batch runs: to import it takes longer than a small job
 
 # as in include/viskorrel_batch.h
 (DISTANCE, MAX_DISTANCE, INTERSECTS, DWITHIN, DFULLY_WITHIN, CLOSEST_POINT, SHORTEST_LINE, LONGEST_LINE, LINE_INTERPOLATE_POINT) = range(9)
@@ -133,7 +130,18 @@ def as_numbers(number, count):
     return array("d", [number])
 
 
+def look_for_numpy():
+    global numpy
+    if numpy is None:
+        try:
+            import numpy as found
+        except ImportError:
+            found = False
+        numpy = found
+
+
 def run(operation, a, b, number=None, pairs=None, refused="raise"):
+    look_for_numpy()
     if refused not in ("raise", "tell"):
         raise ValueError('refused is "raise" or "tell"')
     a = ready(a)
