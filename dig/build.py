@@ -25,7 +25,7 @@ LISTING = os.path.join(ROOT, "crates.txt")
 TARGET = os.path.join(ROOT, "target")
 ARCHIVE = os.path.join(TARGET, "staticlib", "libviskorrel.a")
 SHARED = os.path.join(TARGET, "libviskorrel.so")
-SEEN = os.path.join(TARGET, "build.seen")
+SEEN = os.path.join(TARGET, "build.seen")  # the stamps of all files when they were last compared by content
 LOG = os.path.join(TARGET, "build.log")  # the prover's lines
 INSTALLED = not os.path.exists(LISTING)
 USUAL = "the installed one" if INSTALLED else "the repository's own"  # where no library is named
@@ -46,33 +46,39 @@ def library(named=None):
         return SHARED
     os.makedirs(TARGET, exist_ok=True)
     with alone():
+        before = stamps(sources())  # what is changed from here on was perhaps not read
         prove()
         link()
         with open(SEEN, "w") as out:
-            out.write(seen())
+            out.write(total(before, stamps(made())))
     return SHARED
 
 
 def untouched():
     """Whether no file was touched since all were compared by content: a short run does not read every crate again."""
     try:
-        return content(SEEN).decode() == seen()
+        return content(SEEN).decode() == total(stamps(sources()), stamps(made()))
     except FileNotFoundError:
         return False
 
 
-def seen():
-    """A sum over names, sizes and times of all that the library is made of. The time of the last change of a file can't be set back."""
-    found, folders = [], [os.path.join(ROOT, name) for name in ("crates", "shared", "include")]
-    while folders:
-        for entry in os.scandir(folders.pop()):
-            if entry.is_dir():
-                folders.append(entry.path)
-            else:
-                found.append((entry.path, entry.stat()))
-    found += [(path, os.stat(path)) for made in (ARCHIVE, SHARED) for path in (made, record(made))] + [(LISTING, os.stat(LISTING))]
-    told = sorted((path, stat.st_ino, stat.st_size, stat.st_mtime_ns, stat.st_ctime_ns) for path, stat in found)
-    return total(repr((" ".join(link_command()), told)).encode())
+def sources():
+    """The files that the library is made of, and some more."""
+    yield LISTING
+    for name in ("crates", "shared", "include"):
+        for folder, _, names in os.walk(os.path.join(ROOT, name)):
+            yield from (os.path.join(folder, file) for file in names)
+
+
+def made():
+    return [path for file in (ARCHIVE, SHARED) for path in (file, record(file))]
+
+
+def stamps(paths):
+    """Names, sizes and times of files, and the command that links. The time of a file's last change can't be set back."""
+    found = sorted((path, os.stat(path)) for path in paths)
+    told = [(path, stat.st_ino, stat.st_size, stat.st_mtime_ns, stat.st_ctime_ns) for path, stat in found]
+    return repr((link_command(), told)).encode()
 
 
 @contextlib.contextmanager
@@ -112,12 +118,17 @@ def files(crate, rooms=("specs", "src", "proofs")):
                   for folder, _, names in os.walk(os.path.join(ROOT, "crates", crate, room)) for file in names)
 
 
+def of_sources(needs):
+    """One sum over the crates: their lines of crates.txt, their files."""
+    return total(*(part for crate in sorted(needs) for part in (
+        " ".join([crate, *needs[crate]]).encode(),
+        *(part for path in files(crate) for part in (os.path.relpath(path, ROOT).encode(), content(path))))))
+
+
 def prove():
     """Proves and builds the archive, if it is not there or was made of something else."""
     needs = crates()
-    made_of = total(*(part for crate in sorted(needs) for part in (
-        " ".join([crate, *needs[crate]]).encode(),
-        *(part for path in files(crate) for part in (os.path.relpath(path, ROOT).encode(), content(path))))))
+    made_of = of_sources(needs)
     if is_made_of(ARCHIVE, made_of):
         return
     known = "was made of other sources" if os.path.exists(ARCHIVE) else "is not there"
@@ -130,6 +141,8 @@ def prove():
     run(Progress({crate: EACH + sum(map(os.path.getsize, files(crate, ["src"]))) for crate in needs}))
     if not os.path.exists(ARCHIVE):
         raise Problems(f"rt staticlib viskorrel made no archive; its lines are in {LOG}")
+    if of_sources(crates()) != made_of:
+        raise Problems("the sources changed while they were proved: what was built is perhaps of neither; build again")
     remember(ARCHIVE, made_of)
     say(f"Proved and built in {spent(time.monotonic() - start)}.")
 
