@@ -24,7 +24,6 @@ LISTING = os.path.join(ROOT, "crates.txt")
 TARGET = os.path.join(ROOT, "target")
 ARCHIVE = os.path.join(TARGET, "staticlib", "libviskorrel.a")
 SHARED = os.path.join(TARGET, "libviskorrel.so")
-SEEN = os.path.join(TARGET, "build.seen")
 LOG = os.path.join(TARGET, "build.log")  # the prover's lines
 INSTALLED = not os.path.exists(LISTING)
 USUAL = "the installed one" if INSTALLED else "the repository's own"  # where no library is named
@@ -41,37 +40,11 @@ def library(named=None):
             return load(named).path
         except LibraryMissing as fault:
             raise Problems(str(fault)) from None
-    if untouched():
-        return SHARED
     os.makedirs(TARGET, exist_ok=True)
     with alone():
         prove()
         link()
-        with open(SEEN, "w") as out:
-            out.write(seen())
     return SHARED
-
-
-def untouched():
-    """Whether no file was touched since all were compared by content: a short run does not read every crate again."""
-    try:
-        return content(SEEN).decode() == seen()
-    except FileNotFoundError:
-        return False
-
-
-def seen():
-    """A sum over names, sizes and times of all that the library is made of. The time of the last change of a file can't be set back."""
-    found, folders = [], [os.path.join(ROOT, name) for name in ("crates", "shared", "include")]
-    while folders:
-        for entry in os.scandir(folders.pop()):
-            if entry.is_dir():
-                folders.append(entry.path)
-            else:
-                found.append((entry.path, entry.stat()))
-    found += [(path, os.stat(path)) for made in (ARCHIVE, SHARED) for path in (made, record(made))] + [(LISTING, os.stat(LISTING))]
-    told = sorted((path, stat.st_ino, stat.st_size, stat.st_mtime_ns, stat.st_ctime_ns) for path, stat in found)
-    return total(repr((" ".join(link_command()), told)).encode())
 
 
 @contextlib.contextmanager
