@@ -25,7 +25,6 @@ LISTING = os.path.join(ROOT, "crates.txt")
 TARGET = os.path.join(ROOT, "target")
 ARCHIVE = os.path.join(TARGET, "staticlib", "libviskorrel.a")
 SHARED = os.path.join(TARGET, "libviskorrel.so")
-SEEN = os.path.join(TARGET, "build.seen")  # the stamps of all files when they were last compared by content
 LOG = os.path.join(TARGET, "build.log")  # the prover's lines
 INSTALLED = not os.path.exists(LISTING)
 USUAL = "the installed one" if INSTALLED else "the repository's own"  # where no library is named
@@ -42,43 +41,11 @@ def library(named=None):
             return load(named).path
         except LibraryMissing as fault:
             raise Problems(str(fault)) from None
-    if untouched():
-        return SHARED
     os.makedirs(TARGET, exist_ok=True)
     with alone():
-        before = stamps(sources())  # what is changed from here on was perhaps not read
         prove()
         link()
-        with open(SEEN, "w") as out:
-            out.write(total(before, stamps(made())))
     return SHARED
-
-
-def untouched():
-    """Whether no file was touched since all were compared by content: a short run does not read every crate again."""
-    try:
-        return content(SEEN).decode() == total(stamps(sources()), stamps(made()))
-    except FileNotFoundError:
-        return False
-
-
-def sources():
-    """The files that the library is made of, and some more."""
-    yield LISTING
-    for name in ("crates", "shared", "include"):
-        for folder, _, names in os.walk(os.path.join(ROOT, name)):
-            yield from (os.path.join(folder, file) for file in names)
-
-
-def made():
-    return [path for file in (ARCHIVE, SHARED) for path in (file, record(file))]
-
-
-def stamps(paths):
-    """Names, sizes and times of files, and the command that links. The time of a file's last change can't be set back."""
-    found = sorted((path, os.stat(path)) for path in paths)
-    told = [(path, stat.st_ino, stat.st_size, stat.st_mtime_ns, stat.st_ctime_ns) for path, stat in found]
-    return repr((link_command(), told)).encode()
 
 
 @contextlib.contextmanager

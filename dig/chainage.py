@@ -1,7 +1,7 @@
 """Chainage: the way along the centreline in plan, from its start to the place nearest to something."""
 import itertools
 import math
-from dataclasses import dataclass
+from collections import namedtuple
 
 from dig.geopackage import LINE
 from dig.measure import line, shortest
@@ -10,15 +10,10 @@ CHUNK = 32     # segments with one box, where the foot in plan is looked for
 JOINED = 0.01  # metres between the end of a run and the start of the next that follows it
 
 
-@dataclass
-class Segment:
+class Segment(namedtuple("Segment", "id a b start end")):
     """A piece of the centreline that is measured by itself; `start` and `end` are the chainages of its ends."""
-    id: int
-    a: tuple
-    b: tuple
-    start: float
-    end: float
-    table: str = "centreline"
+    __slots__ = ()
+    table = "centreline"
 
     @property
     def blob(self):

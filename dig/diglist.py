@@ -1,11 +1,8 @@
 """The dig list: each dent with its nearest struck-off dent; each dent group with the longest line to its weld."""
 import math
 import re
-from dataclasses import dataclass, field
-from typing import Optional
 
 from dig import matching, measure
-from dig.geopackage import Feature
 from dig.measure import multipoint, told
 from dig.problems import Problems
 from viskorrel import Refusal, dwithin
@@ -16,28 +13,16 @@ OFF_PIPE = 25.0   # metres from the centreline
 NAMED = 6         # of many, so many are named
 
 
-@dataclass
 class Dent:
-    feature: Feature
-    nearest: Optional[Feature]
-    distance: Optional[float]
-    state: str
-    chainage: Optional[float] = None
-    off: Optional[float] = None             # distance to the centreline
-    same_as: Optional[Feature] = None       # the dent that this row repeats: the row is listed and not counted
-    warnings: list = field(default_factory=list)
+    def __init__(self, feature, nearest, distance, state):
+        self.feature, self.nearest, self.distance, self.state = feature, nearest, distance, state
+        self.chainage = self.off = None  # of the place of the centreline that is nearest, and how far that is
+        self.same_as = None              # the dent that this row repeats: the row is listed and not counted
+        self.warnings = []
 
 
-@dataclass
-class Group:
-    name: str
-    dents: list
-    welds: list
-    chainage: Optional[float] = None
-    width: Optional[float] = None  # the longest line: of a group that has a weld
-    start: Optional[tuple] = None  # at a dent
-    end: Optional[tuple] = None    # at the weld
-    warnings: list = field(default_factory=list)
+class Counted:
+    """What has dents: rows that repeat a dent are not counted."""
 
     @property
     def count(self):
@@ -48,23 +33,19 @@ class Group:
         return sum(dent.same_as is None and dent.state == NEW for dent in self.dents)
 
 
-@dataclass
-class DigList:
-    """In the order of the list. A dig is a group with a new dent; the others are quiet."""
-    dents: list
-    digs: list
-    quiet: list
-    warnings: list
-    chainage: bool  # whether there is a centreline
-    stamp: object = None
+class Group(Counted):
+    def __init__(self, name):
+        self.name, self.dents, self.welds, self.chainage, self.warnings = name, [], [], None, []
+        self.width = self.start = self.end = None  # the longest line, from a dent to the weld: of a group that has a weld
 
-    @property
-    def count(self):
-        return sum(dent.same_as is None for dent in self.dents)
 
-    @property
-    def new(self):
-        return sum(dent.same_as is None and dent.state == NEW for dent in self.dents)
+class DigList(Counted):
+    """In the order of the list. A dig is a group with a new dent; the others are quiet. `chainage`: whether there is a centreline."""
+
+    def __init__(self, groups, chainage):
+        self.dents = [dent for group in groups for dent in group.dents]
+        self.digs, self.quiet = [group for group in groups if group.new], [group for group in groups if not group.new]
+        self.chainage, self.warnings, self.stamp = chainage, [], None
 
 
 def make(features, tolerance, chainage, box_test=True):
@@ -76,8 +57,7 @@ def make(features, tolerance, chainage, box_test=True):
     groups = by_group(dents, features["welds"])
     widths(groups)
     groups.sort(key=place_in_list)
-    listed = DigList([dent for group in groups for dent in group.dents], [group for group in groups if group.new],
-                     [group for group in groups if not group.new], [], chainage.there())
+    listed = DigList(groups, chainage.there())
     listed.warnings = warnings(listed, groups, features, chainage)
     return listed
 
@@ -114,7 +94,7 @@ def by_group(dents, welds):
     """Each group in its own order: by chainage, else by id. Its place along the pipe is that of its dent nearest to the pipe."""
     groups = {}
     for dent in dents:
-        groups.setdefault(dent.feature.group, Group(dent.feature.group, [], [])).dents.append(dent)
+        groups.setdefault(dent.feature.group, Group(dent.feature.group)).dents.append(dent)
     for weld in welds:
         if weld.group in groups:
             groups[weld.group].welds.append(weld)

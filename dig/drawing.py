@@ -2,7 +2,6 @@
 import html
 import math
 import unicodedata
-from dataclasses import replace
 
 from dig.diglist import NEW
 
@@ -136,7 +135,7 @@ def near(features, frame):
                 if min(xs) <= right and max(xs) >= left and min(ys) <= high and max(ys) >= low:
                     runs.append((kind, piece))
         if runs:
-            out.append(replace(feature, runs=runs))
+            out.append(feature._replace(runs=runs))
     return out
 
 

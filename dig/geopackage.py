@@ -2,7 +2,7 @@
 import math
 import sqlite3
 import struct
-from dataclasses import dataclass
+from collections import namedtuple
 
 from dig import reference
 from dig.measure import told
@@ -13,14 +13,9 @@ from viskorrel import Refusal, read
 LINE = 2
 
 
-@dataclass
-class Feature:
-    table: str
-    id: int
-    group: str
-    blob: bytes
-    runs: list  # (kind, vertices), as the library read them
-    label: str = ""
+class Feature(namedtuple("Feature", "table id group blob runs label", defaults=[""])):
+    """`runs` are (kind, vertices), as the library read them; `label` is what the crew wrote."""
+    __slots__ = ()
 
     @property
     def name(self):
@@ -86,14 +81,10 @@ class GeoPackage:
 
     def metres(self, tables, trusted):
         """All tables in one reference system, in metres, or a problem; what the outputs say of it."""
-        systems, used = {}, []
-        for table in tables:
-            for srid in dict.fromkeys((self.tables[table][1], self.contents[table])):
-                if srid is not None:
-                    used.append((table, srid))
-                    systems[srid] = reference.system([
-                        [row.get(name) for name in ("srs_name", "organization", "organization_coordsys_id", "definition", "definition_12_063")]
-                        for row in self.system_row(srid)], srid)
+        used = [(table, srid) for table in tables for srid in dict.fromkeys((self.tables[table][1], self.contents[table])) if srid is not None]
+        columns = ("srs_name", "organization", "organization_coordsys_id", "definition", "definition_12_063")
+        systems = {srid: reference.system([[row.get(name) for name in columns] for row in self.system_row(srid)], srid)
+                   for srid in dict.fromkeys(srid for _, srid in used)}
         return reference.check(systems, used, trusted)
 
     def label_column(self, table, asked, needed):

@@ -1,6 +1,4 @@
 """The dig list in words, and as CSV."""
-import csv
-import io
 import re
 
 from dig.diglist import NEW
@@ -93,6 +91,8 @@ def inert(cell):
 
 
 def rows_to_csv(rows):
+    import csv  # what a run does not need is not loaded
+    import io
     out = io.StringIO()
     writer = csv.writer(out, lineterminator="\n")
     writer.writerows([inert("" if cell is None else cell) for cell in row] for row in rows)

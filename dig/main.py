@@ -5,14 +5,15 @@ import os
 import signal
 import sqlite3
 import sys
-from dataclasses import dataclass
+from collections import namedtuple
 
 import viskorrel
-from dig import build, diglist, listing, stamp
+from dig import diglist, listing, ready, stamp
 from dig.chainage import Chainage
 from dig.geopackage import GeoPackage
 from dig.outputs import Outputs
 from dig.problems import Problems
+from viskorrel._library import NAME, VARIABLE
 
 ROLES = {
     "dents": ["dents", "dent"], "struck": ["struck_off", "struck", "struck_dents"], "welds": ["welds", "weld"],
@@ -63,7 +64,7 @@ def parser():
     for form, use in FORMS.items():
         options.add_argument(f"--{form}", metavar="FILE", help=use)
     options.add_argument("--no-box-test", action="store_true", help=argparse.SUPPRESS)  # measures every pair; the list is the same
-    options.add_argument("--library", metavar="PATH", help=f"{build.NAME}, or the folder that has it; default: {build.VARIABLE}, else {build.USUAL}")
+    options.add_argument("--library", metavar="PATH", help=f"{NAME}, or the folder that has it; default: {VARIABLE}, else the {'installed one' if ready.INSTALLED else 'one of the repository'}")
     options.add_argument("--version", action="version", version=f"viskorrel {viskorrel.__version__}")
     return options
 
@@ -82,7 +83,8 @@ def main(words):
         lines, status = getattr(fault, "lines", [str(fault)]), 1
         if isinstance(fault, BrokenPipeError):
             lines = ["what reads the list closed it early"]
-            os.dup2(os.open(os.devnull, os.O_WRONLY), sys.stdout.fileno())  # else the interpreter complains when it ends
+        if isinstance(fault, OSError):
+            os.dup2(os.open(os.devnull, os.O_WRONLY), sys.stdout.fileno())  # else the interpreter tries to print the rest when it ends
         lines, told = [f"error: {line}" for line in lines], getattr(fault, "told", [])
     except KeyboardInterrupt as fault:
         lines, told, status = ["", "Stopped."], getattr(fault, "told", []), 130
@@ -137,13 +139,13 @@ def outdated(words):
 
 
 def demo(asked):
-    from dig import corridor
+    from dig import build, corridor
     folder = asked.folder or build.DEMO
     os.makedirs(folder, exist_ok=True)
     asked.file = os.path.join(folder, "corridor.gpkg")
     if os.path.exists(asked.file) and not ours(asked.file, corridor.IDENTIFIER):
         raise Problems(f"{asked.file} is there and is not the demo's: it is left alone")
-    build.library(asked.library)
+    ready.library(asked.library)
     corridor.make(asked.file)
     for form in FORMS:
         setattr(asked, form, getattr(asked, form) or os.path.join(folder, f"dig.{form}"))
@@ -160,13 +162,8 @@ def ours(path, identifier):
         file.close()
 
 
-@dataclass
-class Made:
-    list: diglist.DigList
-    features: dict       # lists of features by role
-    chainage: Chainage
-    systems: list        # rows of gpkg_spatial_ref_sys
-    kind: tuple          # of the dents: geometry type, z, m
+# the list; lists of features by role; the centreline's chainage; rows of gpkg_spatial_ref_sys; the dents' geometry type, z and m
+Made = namedtuple("Made", "list features chainage systems kind")
 
 
 def make(asked, package):
@@ -176,7 +173,7 @@ def make(asked, package):
     labels = {role: package.label_column(tables[role], asked.label, role == "dents") for role in ("dents", "struck")}
     there = [table for table in tables.values() if table]
     system = package.metres(there, asked.metres)
-    library = viskorrel.load(build.library(asked.library))
+    library = viskorrel.load(ready.library(asked.library))
     features, faults = {}, []
     for role, table in tables.items():
         features[role], found = package.features(table, groups.get(role), labels.get(role)) if table else ([], [])

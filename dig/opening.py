@@ -2,7 +2,6 @@
 import hashlib
 import os
 import sqlite3
-import urllib.parse
 
 from dig.problems import Problems
 
@@ -47,7 +46,7 @@ class Opened:
             self.warnings.append(
                 f"{self.path} is in WAL mode and has no {os.path.basename(self.path)}-wal beside it: if it was copied while a program had it "
                 "open, the last changes stand in that file and are missing here")
-        self.file = sqlite3.connect("file:" + urllib.parse.quote(os.path.abspath(source)) + "?" + options, uri=True, timeout=WAIT,
+        self.file = sqlite3.connect(f"file:{quoted(os.path.abspath(source))}?{options}", uri=True, timeout=WAIT,
                                     isolation_level=None)
         self.file.execute("BEGIN")
         self.file.execute("SELECT count(*) FROM sqlite_master").fetchone()  # from here on no writer can change what is read
@@ -97,6 +96,11 @@ class Opened:
             import shutil
             shutil.rmtree(self._folder, ignore_errors=True)
             self._folder = None
+
+
+def quoted(path):
+    """As the path of a URI: without what would end it there."""
+    return path.replace("%", "%25").replace("?", "%3f").replace("#", "%23")
 
 
 def status(path):

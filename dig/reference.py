@@ -1,6 +1,6 @@
 """Whether a reference system's coordinates are metres: its WKT 1 or WKT 2, as a GeoPackage file holds them."""
 import re
-from dataclasses import dataclass
+from collections import namedtuple
 
 from dig.problems import Problems
 
@@ -15,10 +15,9 @@ UNITS = {"UNIT", "LENGTHUNIT", "ANGLEUNIT"}
 UNSAID = {"", "undefined", "unknown"}
 
 
-@dataclass
-class Node:
-    word: str
-    parts: list  # Nodes, and words and numbers as text
+class Node(namedtuple("Node", "word parts")):
+    """`parts` are Nodes, and words and numbers as text."""
+    __slots__ = ()
 
     def nodes(self, *words):
         return [part for part in self.parts if isinstance(part, Node) and part.word in words]
@@ -118,11 +117,9 @@ def pseudo(node):
     return []
 
 
-@dataclass
-class System:
-    srid: int
-    name: str       # what the file calls it, with its authority's code
-    reasons: list   # why it is not in metres
+class System(namedtuple("System", "srid name reasons")):
+    """`name` is what the file calls it, with its authority's code; `reasons` say why it is not in metres."""
+    __slots__ = ()
 
     def __str__(self):
         return f"reference system {self.srid} ({self.name})"

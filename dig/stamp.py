@@ -1,23 +1,15 @@
 """What every output carries: which file, by which programs, when, with which tolerance."""
 import datetime
 import os
-from dataclasses import dataclass
-from typing import Optional
+from collections import namedtuple
 
 from dig.opening import hashed
 from viskorrel import __version__, library_version
 
 
-@dataclass
-class Stamp:
-    file: str
-    sha256: str
-    log_sha256: Optional[str]  # of FILE-wal, where the file was read with one
-    made: str
-    tolerance: float
-    system: str
-    program: str
-    library: str
+class Stamp(namedtuple("Stamp", "file sha256 log_sha256 made tolerance system program library")):
+    """`log_sha256` is that of FILE-wal, where the file was read with one, else None."""
+    __slots__ = ()
 
     def rows(self):
         """Name and value of each line, for people."""
