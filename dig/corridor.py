@@ -36,7 +36,7 @@ GEOGRAPHIC = (
 
 SCHEMA = """
 CREATE TABLE gpkg_spatial_ref_sys (srs_name TEXT NOT NULL, srs_id INTEGER PRIMARY KEY, organization TEXT NOT NULL,
-  organization_coordsys_id INTEGER NOT NULL, definition TEXT NOT NULL, description TEXT);
+  organization_coordsys_id INTEGER NOT NULL, definition TEXT NOT NULL, description TEXT, definition_12_063 TEXT NOT NULL DEFAULT 'undefined');
 CREATE TABLE gpkg_contents (table_name TEXT NOT NULL PRIMARY KEY, data_type TEXT NOT NULL, identifier TEXT UNIQUE,
   description TEXT DEFAULT '', last_change DATETIME NOT NULL DEFAULT (strftime('%Y-%m-%dT%H:%M:%fZ','now')),
   min_x DOUBLE, min_y DOUBLE, max_x DOUBLE, max_y DOUBLE, srs_id INTEGER,
@@ -46,6 +46,10 @@ CREATE TABLE gpkg_geometry_columns (table_name TEXT NOT NULL, column_name TEXT N
   CONSTRAINT uk_gc_table_name UNIQUE (table_name),
   CONSTRAINT fk_gc_tn FOREIGN KEY (table_name) REFERENCES gpkg_contents(table_name),
   CONSTRAINT fk_gc_srs FOREIGN KEY (srs_id) REFERENCES gpkg_spatial_ref_sys (srs_id));
+CREATE TABLE gpkg_extensions (table_name TEXT, column_name TEXT, extension_name TEXT NOT NULL, definition TEXT NOT NULL, scope TEXT NOT NULL,
+  CONSTRAINT ge_tce UNIQUE (table_name, column_name, extension_name));
+INSERT INTO gpkg_extensions VALUES ('gpkg_spatial_ref_sys', 'definition_12_063', 'gpkg_crs_wkt', 'http://www.geopackage.org/spec120/#extension_crs_wkt',
+  'read-write');
 """
 
 
@@ -129,26 +133,36 @@ def make(path):
     unfinished = f"{path}.{os.getpid()}"
     try:
         file = sqlite3.connect(unfinished)
-        file.execute(f"PRAGMA application_id = {APPLICATION}")
-        file.execute("PRAGMA user_version = 10300")
-        file.executescript(SCHEMA)
-        file.executemany("INSERT INTO gpkg_spatial_ref_sys VALUES (?, ?, ?, ?, ?, ?)", [
-            ("Undefined cartesian", -1, "NONE", -1, "undefined", None),
-            ("Undefined geographic", 0, "NONE", 0, "undefined", None),
-            ("WGS 84", 4326, "EPSG", 4326, GEOGRAPHIC, None),
-            ("WGS 84 / UTM zone 33N", SRID, "EPSG", SRID, PROJECTED, None)])
+        empty(file, [("WGS 84 / UTM zone 33N", SRID, "EPSG", SRID, PROJECTED, None, None)])
         for name, kind, column, rows in layers:
-            places = [place for _, _, places in rows for place in places]
-            xs, ys = [p[0] for p in places], [p[1] for p in places]
-            file.execute(f'CREATE TABLE {name} (fid INTEGER PRIMARY KEY AUTOINCREMENT NOT NULL, geom {kind}, {column} TEXT)')
-            file.execute(
-                "INSERT INTO gpkg_contents (table_name, data_type, identifier, description, min_x, min_y, max_x, max_y, srs_id) "
-                "VALUES (?, 'features', ?, ?, ?, ?, ?, ?, ?)", (name, name, IDENTIFIER, min(xs), min(ys), max(xs), max(ys), SRID))
-            file.execute("INSERT INTO gpkg_geometry_columns VALUES (?, 'geom', ?, ?, 1, 0)", (name, kind, SRID))
-            file.executemany(f"INSERT INTO {name} (geom, {column}) VALUES (?, ?)", [row[:2] for row in rows])
+            layer(file, name, kind, SRID, IDENTIFIER, [(column, "TEXT")], [(blob, [word], places) for blob, word, places in rows])
         file.commit()
         file.close()
         os.replace(unfinished, path)
     finally:
         if os.path.exists(unfinished):
             os.remove(unfinished)
+
+
+def empty(file, systems):
+    """A GeoPackage file without layers: the three systems that every file has, and others."""
+    file.execute(f"PRAGMA application_id = {APPLICATION}")
+    file.execute("PRAGMA user_version = 10300")
+    file.executescript(SCHEMA)
+    every = {row[1]: row for row in [
+        ("Undefined cartesian", -1, "NONE", -1, "undefined", None, None), ("Undefined geographic", 0, "NONE", 0, "undefined", None, None),
+        ("WGS 84", 4326, "EPSG", 4326, GEOGRAPHIC, None, None), *systems]}
+    file.executemany("INSERT INTO gpkg_spatial_ref_sys VALUES (?, ?, ?, ?, ?, ?, coalesce(?, 'undefined'))", every.values())
+
+
+def layer(file, name, kind, srid, description, columns, rows, z=1, m=0):
+    """`rows`: blob, the columns' values, the vertices."""
+    names = ", ".join(column for column, _ in columns)
+    file.execute(f"CREATE TABLE {name} (fid INTEGER PRIMARY KEY AUTOINCREMENT NOT NULL, geom {kind}, "
+                 + ", ".join(f"{column} {type}" for column, type in columns) + ")")
+    axes = list(zip(*(place for _, _, places in rows for place in places))) or [[None], [None]]
+    file.execute(
+        "INSERT INTO gpkg_contents (table_name, data_type, identifier, description, min_x, min_y, max_x, max_y, srs_id) "
+        "VALUES (?, 'features', ?, ?, ?, ?, ?, ?, ?)", (name, name, description, min(axes[0]), min(axes[1]), max(axes[0]), max(axes[1]), srid))
+    file.execute("INSERT INTO gpkg_geometry_columns VALUES (?, 'geom', ?, ?, ?, ?)", (name, kind, srid, z, m))
+    file.executemany(f"INSERT INTO {name} (geom, {names}) VALUES (?{', ?' * len(columns)})", [(blob, *values) for blob, values, _ in rows])

@@ -1,160 +1,277 @@
 """The dig list: each dent with its nearest struck-off dent; each dent group with the longest line to its weld."""
-import csv
-import io
 import math
-import sys
-import time
-from dataclasses import dataclass
-from typing import Optional
+import re
 
-from dig.geopackage import Feature
-from dig.measure import Refused, multipoint
+from dig import matching, measure
+from dig.measure import multipoint, told
 from dig.problems import Problems
+from viskorrel import Refusal, dwithin
 
 STRUCK, NEW = "struck off", "NEW"
-EVERY = 100_000  # pairs between lines of progress where stderr is no terminal
+FAR_OUT = 3       # times the usual width
+OFF_PIPE = 25.0   # metres from the centreline
+NAMED = 6         # of many, so many are named
 
 
-@dataclass
 class Dent:
-    feature: Feature
-    nearest: Optional[Feature]
-    distance: Optional[float]
-    state: str
+    def __init__(self, feature, nearest, distance, state):
+        self.feature, self.nearest, self.distance, self.state = feature, nearest, distance, state
+        self.chainage = self.off = None  # of the place of the centreline that is nearest, and how far that is
+        self.same_as = None              # the dent that this row repeats: the row is listed and not counted
+        self.warnings = []
 
 
-@dataclass
-class Dig:
-    group: str
-    dents: list
-    welds: list
-    width: float
-    start: tuple  # at a dent
-    end: tuple    # at the weld
+class Counted:
+    """What has dents: rows that repeat a dent are not counted."""
+
+    @property
+    def count(self):
+        return sum(dent.same_as is None for dent in self.dents)
+
+    @property
+    def new(self):
+        return sum(dent.same_as is None and dent.state == NEW for dent in self.dents)
 
 
-class Progress:
-    def __init__(self, whole):
-        self.whole, self.shown, self.terminal = whole, time.monotonic(), sys.stderr.isatty()
-        self.next, self.open = EVERY, False
-
-    def at(self, done):
-        if self.terminal:
-            now = time.monotonic()
-            if now - self.shown > 0.2:
-                self.shown, self.open = now, True
-                print(f"\r{done:,} of {self.whole:,} pairs", end="", file=sys.stderr, flush=True)
-        elif done >= self.next:
-            self.next = done - done % EVERY + EVERY
-            print(f"{done:,} of {self.whole:,} pairs", file=sys.stderr, flush=True)
-
-    def end(self):
-        if self.open:
-            print("\r\033[K", end="", file=sys.stderr, flush=True)
+class Group(Counted):
+    def __init__(self, name):
+        self.name, self.dents, self.welds, self.chainage, self.warnings = name, [], [], None, []
+        self.width = self.start = self.end = None  # the longest line, from a dent to the weld: of a group that has a weld
 
 
-def measured(number):
-    return number is not None and math.isfinite(number)
+class DigList(Counted):
+    """In the order of the list. A dig is a group with a new dent; the others are quiet. `chainage`: whether there is a centreline."""
+
+    def __init__(self, groups, chainage):
+        self.dents = [dent for group in groups for dent in group.dents]
+        self.digs, self.quiet = [group for group in groups if group.new], [group for group in groups if not group.new]
+        self.chainage, self.warnings, self.stamp = chainage, [], None
 
 
-def match(library, dents, struck, tolerance):
-    """Each dent's nearest struck-off dent; of several as near, the first by feature id."""
-    listed, faults = [], []
-    progress = Progress(len(dents) * len(struck))
-    distance = library.distance
-    try:
-        for number, dent in enumerate(dents):
-            nearest, least = None, math.inf
-            for old in struck:
-                try:
-                    found = distance(dent.blob, old.blob)
-                except Refused as refused:
-                    faults.append(f"{dent.table}, feature {dent.id} with {old.table}, feature {old.id}: {refused}")
-                    break
-                if not measured(found):
-                    told = "there is no distance" if found is None else f"the distance is {found}"
-                    faults.append(f"{dent.table}, feature {dent.id} with {old.table}, feature {old.id}: {told}")
-                    break
-                if found < least:
-                    nearest, least = old, found
-            if nearest is None:
-                listed.append(Dent(dent, None, None, NEW))
-            else:
-                state = STRUCK if library.within(dent.blob, nearest.blob, tolerance) else NEW
-                listed.append(Dent(dent, nearest, least, state))
-            progress.at((number + 1) * len(struck))
-    finally:
-        progress.end()
-    if faults:
-        raise Problems(*faults)
+def make(features, tolerance, chainage, box_test=True):
+    """`features`: lists by role. `chainage`: of the centreline."""
+    dents = matched(features["dents"], features["struck"], tolerance, box_test)
+    repeated(dents)
+    if chainage.there():
+        along(dents, chainage, box_test)
+    groups = by_group(dents, features["welds"])
+    widths(groups)
+    groups.sort(key=place_in_list)
+    listed = DigList(groups, chainage.there())
+    listed.warnings = warnings(listed, groups, features, chainage)
     return listed
 
 
-def digs(library, listed, welds):
-    """Per group, the longest line from its dents to its weld (all features of its weld, where there are several)."""
-    groups, of_group = {}, {}
-    for dent in listed:
-        groups.setdefault(dent.feature.group, []).append(dent)
+def matched(dents, struck, tolerance, box_test):
+    """Each dent's nearest struck-off dent; of several as near, the first by feature id."""
+    listed = []
+    for dent, (at, least) in zip(dents, matching.nearest(dents, struck, "pairs", box_test)):
+        if at is None:
+            listed.append(Dent(dent, None, None, NEW))
+        else:
+            state = STRUCK if dwithin(dent.blob, struck[at].blob, tolerance) else NEW
+            listed.append(Dent(dent, struck[at], least, state))
+    return listed
+
+
+def repeated(dents):
+    """A row of the same geometry and group as an earlier one is the same dent."""
+    seen = {}
+    for dent in dents:
+        first = seen.setdefault((dent.feature.group, dent.feature.shape), dent.feature)
+        if first is not dent.feature:
+            dent.same_as = first
+
+
+def along(dents, chainage, box_test):
+    """The place of the centreline nearest to each dent."""
+    found = matching.nearest([dent.feature for dent in dents], chainage.segments, "places on the centreline", box_test)
+    for dent, (at, off) in zip(dents, found):
+        dent.off, dent.chainage = off, chainage.segments[at].chainage(dent.feature.blob)
+
+
+def by_group(dents, welds):
+    """Each group in its own order: by chainage, else by id. Its place along the pipe is that of its dent nearest to the pipe."""
+    groups = {}
+    for dent in dents:
+        groups.setdefault(dent.feature.group, Group(dent.feature.group)).dents.append(dent)
     for weld in welds:
-        of_group.setdefault(weld.group, []).append(weld)
-    found, faults = [], []
-    for group, dents in groups.items():
-        if group not in of_group:
-            faults.append(f"group {group}: there are dents and no weld")
+        if weld.group in groups:
+            groups[weld.group].welds.append(weld)
+    for group in groups.values():
+        if group.dents[0].chainage is not None:
+            group.chainage = min(group.dents, key=lambda dent: dent.off).chainage
+            group.dents.sort(key=lambda dent: dent.chainage)  # stable: then by id
+    return list(groups.values())
+
+
+def place_in_list(group):
+    return (0.0 if group.chainage is None else group.chainage, natural(group.name))
+
+
+def natural(name):
+    """Names in the order that people write them: 9 before 10."""
+    return [(0, int(part), "") if part.isdecimal() else (1, 0, part) for part in re.split(r"(\d+)", name) if part]
+
+
+def widths(groups):
+    """The longest line from all dents of a group, struck off or not, to its weld (all its features, where there are several)."""
+    faults = []
+    for group in groups:
+        if not group.welds:
+            if group.new:
+                faults.append(f"group {group.name}: there are dents and no weld")
             continue
-        a = multipoint([vertex for dent in dents for vertex in dent.feature.vertices])
-        b = multipoint([vertex for weld in of_group[group] for vertex in weld.vertices])
+        a = multipoint([vertex for dent in group.dents for vertex in dent.feature.vertices])
+        b = multipoint([vertex for weld in group.welds for vertex in weld.vertices])
         try:
-            library.lend(a)
-            library.lend(b)
-            line = library.longest(a, b)
-        except Refused as refused:
-            faults.append(f"group {group}: {refused}")
+            line = measure.longest(a, b)
+        except Refusal as refused:
+            faults.append(f"group {group.name}: {told(refused)}")
             continue
-        if line is None or not measured(line[0]):
-            faults.append(f"group {group}: the longest line to its weld is " + ("none" if line is None else str(line[0])))
+        if line is None or not math.isfinite(line[0]):
+            faults.append(f"group {group.name}: the longest line to its weld is " + ("none" if line is None else str(line[0])))
             continue
-        found.append(Dig(group, dents, of_group[group], *line))
+        group.width, group.start, group.end = line
     if faults:
         raise Problems(*faults)
+
+
+# ---- Warnings: the list is whole, and something in the file looks wrong ----
+
+def warnings(listed, groups, features, chainage):
+    """In words; those that speak of a dent or a group stand there too."""
+    return (of_dents(listed) + of_repeated(features) + of_labels(listed.dents) + of_groups(groups) + of_widths(groups)
+            + of_exchanged(groups) + of_pipe(listed.dents, chainage))
+
+
+def named(things):
+    things = [str(thing) for thing in things]
+    return ", ".join(things[:NAMED]) + (f" and {len(things) - NAMED} more" if len(things) > NAMED else "")
+
+
+def of_dents(listed):
+    found = []
+    again = [dent for dent in listed.dents if dent.same_as]
+    for dent in again:
+        dent.warnings.append(f"the same dent as {dent.same_as.name}: not counted again")
+    if again:
+        found.append(f"{len(again)} of the rows are a dent that is there already (same geometry, same group), listed and not counted: "
+                     + named(f"{dent.feature.name} is {dent.same_as.name} (group {dent.feature.group})" for dent in again))
+    places = {}
+    for dent in listed.dents:
+        places.setdefault(dent.feature.shape, {}).setdefault(dent.feature.group, dent)
+    for others in places.values():
+        if len(others) > 1:
+            text = "one geometry in several groups, counted in each: " + named(
+                f"{dent.feature.name} (group {group})" for group, dent in others.items())
+            for dent in others.values():
+                dent.warnings.append(text)
+            found.append(text)
+    if not listed.dents:
+        found.append("there are no dents")
+    elif all(dent.nearest is None for dent in listed.dents):
+        found.append("there are no struck-off dents: every dent is new")
+    elif len(listed.dents) > 1 and all(dent.distance == 0 for dent in listed.dents):
+        found.append("every dent lies exactly on a struck-off one: is the table of struck-off dents a copy of the dents?")
     return found
 
 
-def text(listed, dug, tolerance):
-    lines = [f"DENTS (struck off within {tolerance:g} m)"]
-    lines += aligned(
-        ["dent", "group", "nearest struck-off", "distance m", "state"], "><>><",
-        [[dent.feature.id, dent.feature.group, dent.nearest.id if dent.nearest else "-",
-          f"{dent.distance:.3f}" if dent.nearest else "-", dent.state] for dent in listed])
-    lines += ["", "DIGS (longest line from the group's dents to its weld)"]
-    lines += aligned(
-        ["group", "dents", "new", "width m", "from dent x", "y", "z", "to weld x", "y", "z"], "<>>>>>>>>>",
-        [[dig.group, len(dig.dents), sum(dent.state == NEW for dent in dig.dents), f"{dig.width:.3f}"]
-         + [f"{number:.3f}" for number in dig.start + dig.end] for dig in dug])
-    new = sum(dent.state == NEW for dent in listed)
-    lines += ["", f"Whole list: {counted(len(listed), 'dent')}, {new} new; {counted(len(dug), 'dig')}."]
-    return "\n".join(lines) + "\n"
+def of_repeated(features):
+    found = []
+    for role, what in (("struck", "struck-off dents"), ("welds", "welds")):
+        seen, again = {}, []
+        for feature in features[role]:
+            first = seen.setdefault((feature.group, feature.shape), feature)
+            if first is not feature:
+                again.append(f"{feature.name} is {first.name}")
+        if again:
+            found.append(f"{what} that are there more than once (same geometry): {named(again)}")
+    return found
 
 
-def counted(number, noun):
-    return f"{number} {noun}" + ("" if number == 1 else "s")
+def of_labels(dents):
+    seen = {}
+    for dent in dents:
+        if dent.feature.label and not dent.same_as:
+            seen.setdefault(dent.feature.label, []).append(dent)
+    found = []
+    for label, those in seen.items():
+        if len(those) > 1:
+            text = f"{len(those)} dents have the label {label}: features {named(dent.feature.id for dent in those)}"
+            for dent in those:
+                dent.warnings.append(text)
+            found.append(text)
+    return found
 
 
-def aligned(heads, sides, rows):
-    rows = [heads] + [[str(cell) for cell in row] for row in rows]
-    widths = [max(len(row[at]) for row in rows) for at in range(len(heads))]
-    return ["  ".join(f"{cell:{side}{width}}" for cell, side, width in zip(row, sides, widths)).rstrip() for row in rows]
+def of_groups(groups):
+    found, alike = [], {}
+    for group in groups:
+        alike.setdefault("".join(group.name.split()).casefold(), []).append(group)
+        if not group.welds:
+            group.warnings.append("no weld")
+            found.append(f"group {group.name} has no weld (and no new dent)")
+    for those in alike.values():
+        if len(those) > 1:
+            text = "groups whose names differ only in case or spaces: " + named(repr(group.name) for group in those)
+            for group in those:
+                group.warnings.append(text)
+            found.append(text)
+    return found
 
 
-def table(listed, dug):
-    """The list as CSV: a row for each dent, with its group's dig."""
-    by_group = {dig.group: dig for dig in dug}
-    out = io.StringIO()
-    writer = csv.writer(out, lineterminator="\n")
-    writer.writerow(["dent", "group", "nearest_struck_off", "distance", "state", "dig_width",
-                     "from_x", "from_y", "from_z", "to_x", "to_y", "to_z"])
-    for dent in listed:
-        dig = by_group[dent.feature.group]
-        writer.writerow([dent.feature.id, dent.feature.group, dent.nearest.id if dent.nearest else "",
-                         repr(dent.distance) if dent.nearest else "", dent.state, repr(dig.width), *map(repr, dig.start + dig.end)])
-    return out.getvalue()
+def of_widths(groups):
+    """Against the median of the smaller half, so that welds exchanged between two groups of three still stand out."""
+    wide = [group for group in groups if group.width is not None]
+    smaller = sorted(group.width for group in wide)[:len(wide) // 2]
+    if not smaller:
+        return []
+    usual = median(smaller)
+    found = []
+    for group in wide:
+        if group.width > FAR_OUT * usual and group.width > usual + 1:
+            text = f"group {group.name}: {group.width:.3f} m to its weld is far out of the others (usual: {usual:.3f} m): is it the right weld?"
+            group.warnings.append(text)
+            found.append(text)
+    return found
+
+
+def of_exchanged(groups):
+    """Two groups, each nearer to the other's weld than to its own."""
+    known = [(group, middle(group.dents[0].feature.vertices), middle(group.welds[0].vertices)) for group in groups if group.welds]
+    own = [math.dist(dent, weld) for _, dent, weld in known]
+    limit = median(own) if own else 0
+    long = [(known[at], own[at]) for at in range(len(known)) if own[at] >= limit]
+    found = []
+    for at, ((a, dent_a, weld_a), own_a) in enumerate(long):
+        for (b, dent_b, weld_b), own_b in long[at + 1:]:
+            if math.dist(dent_a, weld_b) < own_a and math.dist(dent_b, weld_a) < own_b:
+                text = f"groups {a.name} and {b.name}: each is nearer to the other's weld than to its own: are the welds exchanged?"
+                a.warnings.append(text)
+                b.warnings.append(text)
+                found.append(text)
+    return found
+
+
+def middle(places):
+    return tuple(sum(axis) / len(places) for axis in zip(*places))
+
+
+def median(numbers):
+    """Of two in the middle the lower."""
+    return sorted(numbers)[(len(numbers) - 1) // 2]
+
+
+def of_pipe(dents, chainage):
+    found = []
+    if chainage.gaps:
+        found.append(f"the centreline's runs do not follow each other ({len(chainage.gaps)} gaps, the widest {max(chainage.gaps):.2f} m): "
+                     "chainage adds up the runs by feature id, without the gaps")
+    off = [dent for dent in dents if dent.off is not None and dent.off > OFF_PIPE]
+    for dent in off:
+        dent.warnings.append(f"{dent.off:.1f} m from the centreline")
+    if off:
+        farthest = max(off, key=lambda dent: dent.off)
+        found.append(f"{len(off)} dents are more than {OFF_PIPE:g} m from the centreline, {farthest.feature.name} the farthest by {farthest.off:.1f} m")
+    return found

@@ -1,24 +1,31 @@
 """Features of a GeoPackage file."""
 import math
-import os
 import sqlite3
 import struct
-import urllib.parse
-from dataclasses import dataclass
+from collections import namedtuple
 
-from dig.measure import Refused
+from dig import reference
+from dig.measure import told
+from dig.opening import Opened
 from dig.problems import Problems
+from viskorrel import Refusal, read
 
 LINE = 2
 
 
-@dataclass
-class Feature:
-    table: str
-    id: int
-    group: str
-    blob: bytes
-    runs: list  # (kind, vertices), as the library read them
+class Feature(namedtuple("Feature", "table id group blob runs label", defaults=[""])):
+    """`runs` are (kind, vertices), as the library read them; `label` is what the crew wrote."""
+    __slots__ = ()
+
+    @property
+    def name(self):
+        """What the list calls it: what the crew wrote, else the id."""
+        return self.label or str(self.id)
+
+    @property
+    def shape(self):
+        """The same for the same geometry, however it is encoded."""
+        return tuple((kind, tuple(run)) for kind, run in self.runs)
 
     @property
     def vertices(self):
@@ -28,15 +35,21 @@ class Feature:
 
 class GeoPackage:
     def __init__(self, path):
-        if not os.path.isfile(path):
-            raise Problems(f"{path}: no such file")
         self.path = path
-        self.file = sqlite3.connect("file:" + urllib.parse.quote(os.path.abspath(path)) + "?mode=ro", uri=True)
+        self.opened = Opened(path)
+        self.file = self.opened.file
         try:
-            rows = self.file.execute("SELECT table_name, column_name, srs_id FROM gpkg_geometry_columns ORDER BY table_name").fetchall()
+            rows = self.file.execute(
+                "SELECT g.table_name, g.column_name, g.srs_id, c.srs_id, g.geometry_type_name, g.z, g.m FROM gpkg_geometry_columns g "
+                "LEFT JOIN gpkg_contents c ON c.table_name = g.table_name ORDER BY g.table_name").fetchall()
         except sqlite3.Error as fault:
             raise Problems(f"{path}: no GeoPackage with features ({fault})") from fault
-        self.tables = {table: (column, srid) for table, column, srid in rows}
+        self.tables = {row[0]: (row[1], row[2]) for row in rows}
+        self.kinds = {row[0]: row[4:] for row in rows}
+        self.contents = {row[0]: row[3] for row in rows}
+
+    def close(self):
+        self.opened.close()
 
     def find(self, role, asked, names, needed=True):
         """The table of a role: the one asked for, or the first of the names that there is."""
@@ -60,43 +73,54 @@ class GeoPackage:
                 return by_name[name.lower()]
         raise Problems(f"{table}: no column {asked or ' or '.join(names)} for the group (--group names one); columns: {', '.join(by_name.values())}")
 
-    def metres(self, tables):
-        """All tables in one reference system, and none in degrees."""
-        srids = {self.tables[table][1] for table in tables}
-        if len(srids) > 1:
-            raise Problems("the tables are in different reference systems: " + ", ".join(
-                f"{table} in {self.tables[table][1]}" for table in tables))
-        for srid in srids:
-            row = self.file.execute("SELECT definition FROM gpkg_spatial_ref_sys WHERE srs_id = ?", (srid,)).fetchone()
-            definition = str(row[0] if row else "").lstrip().upper()
-            if definition.startswith(("GEOGCS", "GEOGCRS", "GEODCRS", "GEOGRAPHICCRS")):
-                raise Problems(f"reference system {srid} is in degrees: distances would not be metres")
+    def system_row(self, srid):
+        """All columns of a reference system, by name."""
+        rows = self.file.execute("SELECT * FROM gpkg_spatial_ref_sys WHERE srs_id = ?", (srid,))
+        names = [column[0] for column in rows.description]
+        return [dict(zip(names, row)) for row in rows]
 
-    def features(self, library, table, group=None):
+    def metres(self, tables, trusted):
+        """All tables in one reference system, in metres, or a problem; what the outputs say of it."""
+        used = [(table, srid) for table in tables for srid in dict.fromkeys((self.tables[table][1], self.contents[table])) if srid is not None]
+        columns = ("srs_name", "organization", "organization_coordsys_id", "definition", "definition_12_063")
+        systems = {srid: reference.system([[row.get(name) for name in columns] for row in self.system_row(srid)], srid)
+                   for srid in dict.fromkeys(srid for _, srid in used)}
+        return reference.check(systems, used, trusted)
+
+    def label_column(self, table, asked, needed):
+        """The column that names features, or none."""
+        names = [row[1] for row in self.columns(table)]
+        found = [name for name in names if asked and name.lower() == asked.lower()]
+        if asked and needed and not found:
+            raise Problems(f"{table}: no column {asked} for the label (--label names one); columns: {', '.join(names)}")
+        return found[0] if found else None
+
+    def features(self, table, group=None, label=None):
         """The features of a table by id, each read by the library; and the faults, one line for each."""
         column, srid = self.tables[table]
         keys = [row[1] for row in self.columns(table) if row[5]]
         if len(keys) != 1:
             raise Problems(f"{table}: no feature id (a primary key of one column)")
-        wanted = [keys[0], column] + ([group] if group else [])
+        wanted = [quoted(name) if name else "NULL" for name in (keys[0], column, group, label)]
         found, faults = [], []
-        rows = self.file.execute(f"SELECT {', '.join(map(quoted, wanted))} FROM {quoted(table)} ORDER BY {quoted(keys[0])}")
-        for id, blob, *rest in rows:
+        rows = self.file.execute(f"SELECT {', '.join(wanted)} FROM {quoted(table)} ORDER BY {quoted(keys[0])}")
+        for id, blob, of_group, of_label in rows:
             where = f"{table}, feature {id}"
             if not isinstance(blob, bytes):
                 faults.append(f"{where}: " + ("there is no geometry" if blob is None else "the geometry is no blob"))
                 continue
-            name = "" if not group or rest[0] is None else str(rest[0]).strip()
+            name, called = word(of_group), word(of_label)
             if group and not name:
                 faults.append(f"{where}: the group is empty")
-            elif not name.isprintable():
-                faults.append(f"{where}: the group {name!r} has a character that cannot be printed")
+            for what, said in (("group", name), ("label", called)):
+                if not said.isprintable():
+                    faults.append(f"{where}: the {what} {said!r} has a character that cannot be printed")
             try:
-                runs = library.read(blob)
-            except Refused as refused:
-                faults.append(f"{where}: {refused}")
+                runs = read(blob)
+            except Refusal as refused:
+                faults.append(f"{where}: {told(refused)}")
                 continue
-            feature = Feature(table, id, name, blob, runs)
+            feature = Feature(table, id, name, blob, runs, called)
             if blob[:2] == b"GP" and struct.unpack_from("<i" if blob[3] & 1 else ">i", blob, 4)[0] != srid:
                 faults.append(f"{where}: the blob's SRID is not the table's, {srid}")
             if not feature.vertices:
@@ -105,6 +129,10 @@ class GeoPackage:
                 faults.append(f"{where}: a coordinate is NaN or infinite")
             found.append(feature)
         return found, faults
+
+
+def word(value):
+    return "" if value is None else str(value).strip()
 
 
 def quoted(name):

@@ -2,30 +2,42 @@
 import argparse
 import math
 import os
+import signal
 import sqlite3
 import sys
+from collections import namedtuple
 
-from dig import build, corridor, diglist, picture
+import viskorrel
+from dig import diglist, listing, ready, stamp
+from dig.chainage import Chainage
 from dig.geopackage import GeoPackage
-from dig.measure import Library
+from dig.outputs import Outputs
 from dig.problems import Problems
+from viskorrel._library import NAME, VARIABLE
 
-DENTS, STRUCK, WELDS = ["dents", "dent"], ["struck_off", "struck", "struck_dents"], ["welds", "weld"]
-PIPE, FITTINGS = ["centreline", "centerline", "pipe", "pipeline"], ["fittings", "fitting"]
+ROLES = {
+    "dents": ["dents", "dent"], "struck": ["struck_off", "struck", "struck_dents"], "welds": ["welds", "weld"],
+    "pipe": ["centreline", "centerline", "pipe", "pipeline"], "fittings": ["fittings", "fitting"]}
+MEASURED = ("dents", "struck", "welds")  # a list needs these
 GROUP = ["dent_group", "group", "group_id"]
+FORMS = {"csv": "write the list as CSV", "svg": "draw plan and profile", "html": "write the list as a page, with a sheet for each dig",
+         "gpkg": "write dig lines and dents as layers of a GeoPackage file"}
 
 HELP = """\
 The dig list of a corridor GeoPackage.
 
 Each dent with its nearest struck-off dent, by 3D distance: struck off within the tolerance, else NEW.
-Each dent group with the longest line from its dents to its weld: the width of the dig.
+Each dent group that has a NEW dent with the longest line from its dents to its weld: the width of the dig.
 
-  ./viskorrel demo [FOLDER]        makes corridor.gpkg in the folder (target/demo), prints its list, writes dig.csv and dig.svg
+  ./viskorrel demo [FOLDER]        makes corridor.gpkg in the folder (target/demo; installed: viskorrel-demo), prints its list,
+                                   writes dig.csv, .svg, .html and .gpkg
   ./viskorrel FILE.gpkg [options]  prints the list of your file
+  ./viskorrel join OUT.gpkg --base FILE.gpkg COPY.gpkg ...    joins copies of a file that were changed apart (join --help)
 """
 END = """\
-Coordinates are in metres and have Z. Status 0: the whole list was printed. Status 1: there are errors, on stderr, and no list.
-Status 2: the command line is at fault.
+Coordinates are in metres and have Z. Status 0: the whole list was printed, and every file written. Status 1: there are errors, on stderr;
+there is no list, no file is new, and a file of an earlier run at the same path has been renamed to .earlier. Status 2: the command line is
+at fault. dig/README.md has more.
 """
 
 
@@ -38,113 +50,168 @@ def metres(word):
 
 def parser():
     options = argparse.ArgumentParser(
-        prog="viskorrel", description=HELP, epilog=END, formatter_class=argparse.RawDescriptionHelpFormatter,
-        usage="./viskorrel demo [FOLDER] | FILE.gpkg [options]")
+        prog="viskorrel", description=HELP, epilog=END, formatter_class=argparse.RawDescriptionHelpFormatter, allow_abbrev=False,
+        usage="./viskorrel demo [FOLDER] | FILE.gpkg [options] | join OUT.gpkg --base FILE.gpkg COPY.gpkg ...")
     options.add_argument("file", metavar="FILE.gpkg", help="a GeoPackage file, or the word demo")
     options.add_argument("folder", nargs="?", help=argparse.SUPPRESS)
-    for role, names in [("dents", DENTS), ("struck", STRUCK), ("welds", WELDS), ("pipe", PIPE), ("fittings", FITTINGS)]:
-        drawn = ", only drawn" if names in (PIPE, FITTINGS) else ""
-        options.add_argument(f"--{role}", metavar="TABLE", help=f"default: {' or '.join(names)}{drawn}")
+    for role, names in ROLES.items():
+        use = {"pipe": ", for chainage and picture", "fittings": ", only drawn"}.get(role, "")
+        options.add_argument(f"--{role}", metavar="TABLE", help=f"default: {' or '.join(names)}{use}")
     options.add_argument("--group", metavar="COLUMN", help=f"the group of dents and welds, default: {' or '.join(GROUP)}")
+    options.add_argument("--label", metavar="COLUMN", help="what the crew calls a dent, default: its feature id")
     options.add_argument("--tolerance", metavar="METRES", type=metres, default=0.25, help="default: 0.25")
-    options.add_argument("--csv", metavar="FILE", help="write the list as CSV")
-    options.add_argument("--svg", metavar="FILE", help="draw plan and profile")
+    options.add_argument("--metres", action="store_true", help="all tables are in metres of one system, whatever the file says of it")
+    for form, use in FORMS.items():
+        options.add_argument(f"--{form}", metavar="FILE", help=use)
+    options.add_argument("--no-box-test", action="store_true", help=argparse.SUPPRESS)  # measures every pair; the list is the same
+    options.add_argument("--library", metavar="PATH", help=f"{NAME}, or the folder that has it; default: {VARIABLE}, else the {'installed one' if ready.INSTALLED else 'one of the repository'}")
+    options.add_argument("--version", action="version", version=f"viskorrel {viskorrel.__version__}")
     return options
 
 
 def main(words):
-    options = parser()
-    asked = options.parse_args(words)
+    joining = words[:1] == ["join"]
+    signal.signal(signal.SIGTERM, stopped)  # so that what was begun is removed
     try:
-        if asked.file == "demo":
-            demo(asked)
+        if joining:
+            from dig import join  # what a run does not need is not loaded
+            join.command(words[1:])
         else:
-            if asked.folder is not None:
-                options.error("one file at a time")
-            run(asked)
-    except Problems as problems:
-        for line in problems.lines:
-            print(f"error: {line}", file=sys.stderr)
-        print("No dig list.", file=sys.stderr)
-        return 1
-    except (OSError, sqlite3.Error) as fault:
-        print(f"error: {fault}\nNo dig list.", file=sys.stderr)
-        return 1
-    except KeyboardInterrupt:
-        print("\nStopped. No dig list.", file=sys.stderr)
-        return 130
-    return 0
+            command(words)
+        return 0
+    except (Problems, OSError, sqlite3.Error) as fault:
+        lines, status = getattr(fault, "lines", [str(fault)]), 1
+        if isinstance(fault, BrokenPipeError):
+            lines = ["what reads the list closed it early"]
+        if isinstance(fault, OSError):
+            os.dup2(os.open(os.devnull, os.O_WRONLY), sys.stdout.fileno())  # else the interpreter tries to print the rest when it ends
+        lines, told = [f"error: {line}" for line in lines], getattr(fault, "told", [])
+    except KeyboardInterrupt as fault:
+        lines, told, status = ["", "Stopped."], getattr(fault, "told", []), 130
+    print("\n".join(lines + told + ["Nothing joined." if joining else "No dig list."]), file=sys.stderr)
+    return status
+
+
+def stopped(*_):
+    raise KeyboardInterrupt
+
+
+def command(words):
+    options = parser()
+    try:
+        asked = options.parse_args(words)
+        if asked.file != "demo" and asked.folder is not None:
+            options.error("one file at a time")
+    except SystemExit as end:
+        if end.code:
+            outdated(words)
+        raise
+    if asked.file == "demo":
+        demo(asked)
+    if asked.gpkg:
+        from dig import layers
+        layers.ours_or_none(asked.gpkg)
+    with Outputs([path for path in (getattr(asked, form) for form in FORMS) if path], [asked.file]) as outputs:
+        package = GeoPackage(asked.file)
+        try:
+            listed = make(asked, package)
+            package.opened.unchanged()
+        finally:
+            package.close()
+        write(asked, listed, outputs)
+        outputs.publish()
+        sys.stdout.write(listing.text(listed.list, asked.tolerance))
+        sys.stdout.flush()
+    for path in outputs.new:
+        print(f"Written: {path}", file=sys.stderr)
+
+
+def outdated(words):
+    """A command line at fault: what an earlier run wrote to its outputs is not left looking current."""
+    scan = argparse.ArgumentParser(add_help=False, allow_abbrev=False)
+    for form in FORMS:
+        scan.add_argument(f"--{form}", nargs="?")
+    paths = [path for path in vars(scan.parse_known_args(words)[0]).values() if path]
+    outputs = Outputs(paths, [word for word in words if word not in paths and os.path.isfile(word)])
+    outputs.set_aside()
+    for line in outputs.told():
+        print(line, file=sys.stderr)
 
 
 def demo(asked):
-    folder = asked.folder or os.path.join(build.ROOT, "target", "demo")
+    from dig import build, corridor
+    folder = asked.folder or build.DEMO
     os.makedirs(folder, exist_ok=True)
     asked.file = os.path.join(folder, "corridor.gpkg")
-    if os.path.exists(asked.file) and not ours(asked.file):
+    if os.path.exists(asked.file) and not ours(asked.file, corridor.IDENTIFIER):
         raise Problems(f"{asked.file} is there and is not the demo's: it is left alone")
-    build.library()
+    ready.library(asked.library)
     corridor.make(asked.file)
-    asked.csv = asked.csv or os.path.join(folder, "dig.csv")
-    asked.svg = asked.svg or os.path.join(folder, "dig.svg")
-    run(asked)
+    for form in FORMS:
+        setattr(asked, form, getattr(asked, form) or os.path.join(folder, f"dig.{form}"))
 
 
-def ours(path):
+def ours(path, identifier):
     """Whether the demo made a file."""
     file = sqlite3.connect(path)
     try:
-        return file.execute("SELECT count(*) FROM gpkg_contents WHERE description <> ?", (corridor.IDENTIFIER,)).fetchone()[0] == 0
+        return file.execute("SELECT count(*) FROM gpkg_contents WHERE description <> ?", (identifier,)).fetchone()[0] == 0
     except sqlite3.Error:
         return False
     finally:
         file.close()
 
 
-def run(asked):
-    paths = [os.path.realpath(path) for path in (asked.file, asked.csv, asked.svg) if path]
-    if len(set(paths)) < len(paths):
-        raise Problems("the file, --csv and --svg must be different files")
-    package = GeoPackage(asked.file)
-    tables = [package.find("dents", asked.dents, DENTS), package.find("struck", asked.struck, STRUCK), package.find("welds", asked.welds, WELDS)]
-    dents, struck, welds = tables
-    pipe = fittings = None
-    if asked.svg:
-        pipe = package.find("pipe", asked.pipe, PIPE, needed=False)
-        fittings = package.find("fittings", asked.fittings, FITTINGS, needed=False)
-        tables += [table for table in (pipe, fittings) if table]
-    groups = {table: package.group_column(table, asked.group, GROUP) for table in (dents, welds)}
-    package.metres(tables)
-    library = Library(build.library())
+# the list; lists of features by role; the centreline's chainage; rows of gpkg_spatial_ref_sys; the dents' geometry type, z and m
+Made = namedtuple("Made", "list features chainage systems kind")
 
-    features, faults = {None: []}, []
-    for table in dict.fromkeys(tables):
-        features[table], found = package.features(library, table, groups.get(table))
+
+def make(asked, package):
+    tables = {role: package.find(role, getattr(asked, role), names, needed=role in MEASURED) for role, names in ROLES.items()}
+    apart(tables)
+    groups = {role: package.group_column(tables[role], asked.group, GROUP) for role in ("dents", "welds")}
+    labels = {role: package.label_column(tables[role], asked.label, role == "dents") for role in ("dents", "struck")}
+    there = [table for table in tables.values() if table]
+    system = package.metres(there, asked.metres)
+    library = viskorrel.load(ready.library(asked.library))
+    features, faults = {}, []
+    for role, table in tables.items():
+        features[role], found = package.features(table, groups.get(role), labels.get(role)) if table else ([], [])
         faults += found
     if faults:
         raise Problems(*faults)
+    chainage = Chainage(features["pipe"])
+    if asked.pipe and not chainage.there():
+        raise Problems(f"{tables['pipe']}: there is no line in it, so it is no centreline")
+    listed = diglist.make(features, asked.tolerance, chainage, not asked.no_box_test)
+    listed.warnings = package.opened.warnings + listed.warnings
+    listed.stamp = stamp.of(package.opened, asked.tolerance, system, library.path)
+    for line in listed.warnings:
+        print(f"warning: {line}", file=sys.stderr)
+    srids = dict.fromkeys(package.tables[table][1] for table in there)
+    return Made(listed, features, chainage, [row for srid in srids for row in package.system_row(srid)], package.kinds[tables["dents"]])
 
-    listed = diglist.match(library, features[dents], features[struck], asked.tolerance)
-    dug = diglist.digs(library, listed, features[welds])
-    outputs = []
+
+def apart(tables):
+    """A table in two roles would strike off everything, or measure a thing against itself."""
+    faults = []
+    for table in dict.fromkeys(table for table in tables.values() if table):
+        roles = [role for role, other in tables.items() if other == table]
+        if len(roles) > 1:
+            faults.append(f"table {table} is taken for {' and '.join(f'--{role}' for role in roles)}: each needs a table of its own")
+    if faults:
+        raise Problems(*faults)
+
+
+def write(asked, made, outputs):
     if asked.csv:
-        outputs.append((asked.csv, diglist.table(listed, dug)))
+        outputs.text(asked.csv, listing.table(made.list))
     if asked.svg:
-        outputs.append((asked.svg, picture.draw(listed, dug, features[struck], features[welds], features[pipe], features[fittings])))
-    for path, content in outputs:
-        write(path, content)
-    sys.stdout.write(diglist.text(listed, dug, asked.tolerance))
-    sys.stdout.flush()
-    for path, _ in outputs:
-        print(f"Written: {path}", file=sys.stderr)
-
-
-def write(path, content):
-    """The file, whole or not at all."""
-    unfinished = f"{path}.{os.getpid()}"
-    try:
-        with open(unfinished, "w", encoding="utf-8", newline="") as file:
-            file.write(content)
-        os.replace(unfinished, path)
-    finally:
-        if os.path.exists(unfinished):
-            os.remove(unfinished)
+        from dig import picture
+        outputs.text(asked.svg, picture.draw(made))
+    if asked.html:
+        from dig import page
+        outputs.text(asked.html, page.draw(made, asked.tolerance))
+    if asked.gpkg:
+        from dig import layers
+        outputs.add(asked.gpkg, lambda path: layers.write(path, made))

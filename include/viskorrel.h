@@ -52,6 +52,8 @@
 #include <stddef.h>
 #include <stdint.h>
 
+#define VISKORREL_VERSION "0.2.0"
+
 #ifdef __cplusplus
 extern "C" {
 #endif

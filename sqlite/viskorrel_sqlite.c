@@ -1,8 +1,7 @@
 /*
  * Viskorrel as SQL functions: a loadable extension of SQLite. README.md says what each function answers.
  *
- * The library decides every answer and every refusal. Here are only: the types of the arguments, the memory that is lent, the refusals in
- * words.
+ * The library decides every answer and every refusal. Here are only: the types of the arguments and the memory that is lent.
  */
 #include <stddef.h>
 #include <stdint.h>
@@ -10,7 +9,8 @@
 #include <sqlite3ext.h>
 SQLITE_EXTENSION_INIT1
 
-#include "viskorrel.h"
+#include "viskorrel_batch.h"
+#include "viskorrel_words.h"
 
 #if defined(_WIN32)
 #define EXPORTED __declspec(dllexport)
@@ -41,7 +41,9 @@ enum form {
     POINT,        /* two blobs; a point or NULL */
     LINE,         /* two blobs; a line or NULL */
     INTERPOLATED, /* a blob and a fraction; a point */
-    PATCH         /* a blob and a number from 1 on; a part of the blob, or NULL */
+    PATCH,        /* a blob and a number from 1 on; a part of the blob, or NULL */
+    REFUSAL,      /* anything; NULL or words */
+    VERSION       /* nothing; words */
 };
 
 struct function {
@@ -65,6 +67,8 @@ static const struct function functions[] = {
     {"ST_3DLongestLine", LINE, 2, 2, 0, 0, viskorrel_3d_longest_line},
     {"ST_3DLineInterpolatePoint", INTERPOLATED, 2, 1, 0, 0, 0},
     {"ST_PatchN", PATCH, 2, 1, 0, 0, 0},
+    {"Viskorrel_Refusal", REFUSAL, 1, 0, 0, 0, 0},
+    {"Viskorrel_Version", VERSION, 0, 0, 0, 0, 0},
 };
 
 #define FUNCTIONS (sizeof functions / sizeof functions[0])
@@ -151,43 +155,21 @@ static int lengthen(struct workspace *w, const uint8_t *blob, size_t length)
 /* An argument of 0 is not named. */
 static void error(sqlite3_context *context, const struct function *f, int argument, const char *words)
 {
-    char text[200];
+    char *text = argument > 0 ? sqlite3_mprintf("%s: argument %d: %s", f->name, argument, words) : sqlite3_mprintf("%s: %s", f->name, words);
 
-    if (argument > 0)
-        sqlite3_snprintf(sizeof text, text, "%s: argument %d: %s", f->name, argument, words);
+    if (text)
+        sqlite3_result_error(context, text, -1);
     else
-        sqlite3_snprintf(sizeof text, text, "%s: %s", f->name, words);
-    sqlite3_result_error(context, text, -1);
+        sqlite3_result_error_nomem(context);
+    sqlite3_free(text);
 }
 
-static void refused(sqlite3_context *context, const struct function *f, uint32_t number, uint32_t side)
+/* A refusal in words: its number, its condition, and what to do about the blob where that is known. Null if there is no memory. */
+static char *words_of(uint32_t number, const uint8_t *blob, size_t length)
 {
-    static const char *const words[] = {
-        "unknown refusal",
-        "the distance is below 0",
-        "the fraction is not within 0..1",
-        "starts with GP and has under 8 bytes",
-        "GeoPackage header: the version is not 0",
-        "GeoPackage header: the bit for extended types is set",
-        "GeoPackage header: a reserved bit is set",
-        "GeoPackage header: the envelope indicator is 5, 6 or 7",
-        "ends in the envelope",
-        "a header, SRID, count or run is longer than the bytes left",
-        "a byte order is above 1",
-        "a geometry has an unknown kind",
-        "a geometry stands more than 32 levels deep",
-        "the type at the top has no Z",
-        "there is a point or face, or no segment",
-        "the workspace is too short",
-        "the output is too short",
-    };
-    char text[120];
-    int argument = (int)side;
+    const char *advice = viskorrel_advice(number, blob, length);
 
-    if (number == 1 || number == 2)
-        argument = f->blobs + 1; /* the number after the blobs */
-    sqlite3_snprintf(sizeof text, text, "%u, %s", (unsigned)number, words[number <= 16 ? number : 0]);
-    error(context, f, argument, text);
+    return sqlite3_mprintf("%u, %s%s%s", (unsigned)number, viskorrel_words(number), advice ? "; " : "", advice ? advice : "");
 }
 
 /* ---- Calls ---- */
@@ -199,6 +181,18 @@ struct call {
     double number;       /* a distance or a fraction */
     sqlite3_int64 index; /* of a patch */
 };
+
+static void refused(sqlite3_context *context, const struct function *f, const struct call *c, uint32_t number, uint32_t side)
+{
+    int argument = number == 1 || number == 2 ? f->blobs + 1 : (int)side; /* the number stands after the blobs */
+    char *text = side >= 1 && side <= 2 ? words_of(number, c->blobs[side - 1], c->lengths[side - 1]) : words_of(number, 0, 0);
+
+    if (text)
+        error(context, f, argument, text);
+    else
+        sqlite3_result_error_nomem(context);
+    sqlite3_free(text);
+}
 
 /* Reads the arguments; 0 if it has given the result already: NULL or an error. */
 static int read_arguments(sqlite3_context *context, const struct function *f, sqlite3_value **values, struct call *call)
@@ -278,7 +272,7 @@ static viskorrel_reply ask(const struct function *f, const struct call *c, const
         output, output_length);
 }
 
-/* Every function but ST_PatchN. */
+/* Every measure: all functions but the last three. */
 static void operation(sqlite3_context *context, int count, sqlite3_value **values)
 {
     struct binding *binding = sqlite3_user_data(context);
@@ -308,7 +302,7 @@ static void operation(sqlite3_context *context, int count, sqlite3_value **value
     }
 
     if (reply.outcome == VISKORREL_REFUSED) {
-        refused(context, f, reply.number, reply.side);
+        refused(context, f, &call, reply.number, reply.side);
         return;
     }
     switch (f->form) {
@@ -333,7 +327,7 @@ static void operation(sqlite3_context *context, int count, sqlite3_value **value
         if (reply.outcome == VISKORREL_ANSWERED)
             sqlite3_result_blob(context, output, VISKORREL_LINE_BYTES, SQLITE_TRANSIENT);
         return;
-    case PATCH:
+    default:
         return;
     }
 }
@@ -353,12 +347,60 @@ static void patch(sqlite3_context *context, int count, sqlite3_value **values)
     n = call.index >= 1 ? (uint64_t)call.index - 1 : UINT64_MAX;
     part = viskorrel_patch(call.blobs[0], call.lengths[0], n);
     if (part.outcome == VISKORREL_REFUSED)
-        refused(context, f, part.number, part.side);
+        refused(context, f, &call, part.number, part.side);
     else if (part.outcome == VISKORREL_ANSWERED)
         sqlite3_result_blob64(context, call.blobs[0] + part.first, part.second - part.first, SQLITE_TRANSIENT);
 }
 
+/* Viskorrel_Refusal: NULL for NULL, and for a blob that an operation on two blobs accepts. */
+static void refusal(sqlite3_context *context, int count, sqlite3_value **values)
+{
+    const uint8_t *blob;
+    size_t length;
+    viskorrel_reply reply;
+    char *text;
+
+    (void)count;
+    if (sqlite3_value_type(values[0]) == SQLITE_NULL)
+        return;
+    if (sqlite3_value_type(values[0]) != SQLITE_BLOB) {
+        sqlite3_result_text(context, "not a blob", -1, SQLITE_STATIC);
+        return;
+    }
+    blob = sqlite3_value_blob(values[0]);
+    length = (size_t)sqlite3_value_bytes(values[0]);
+    reply = viskorrel_blob_refusal(blob, length);
+    if (reply.outcome == VISKORREL_ANSWERED)
+        return;
+    text = reply.outcome == VISKORREL_REFUSED ? words_of(reply.number, blob, length) : 0;
+    if (text)
+        sqlite3_result_text(context, text, -1, sqlite3_free);
+    else
+        sqlite3_result_error_nomem(context);
+}
+
+static void version(sqlite3_context *context, int count, sqlite3_value **values)
+{
+    (void)count;
+    (void)values;
+    sqlite3_result_text(context, VISKORREL_VERSION, -1, SQLITE_STATIC);
+}
+
 /* ---- Loading ---- */
+
+static void (*body(enum form form))(sqlite3_context *, int, sqlite3_value **)
+{
+    switch (form) {
+    case PATCH:
+        return patch;
+    case REFUSAL:
+        return refusal;
+    case VERSION:
+        return version;
+    default:
+        return operation;
+    }
+}
 
 EXPORTED int sqlite3_viskorrelsqlite_init(sqlite3 *db, char **message, const sqlite3_api_routines *api)
 {
@@ -385,7 +427,7 @@ EXPORTED int sqlite3_viskorrelsqlite_init(sqlite3 *db, char **message, const sql
         connection->users++; /* SQLite releases it also where it fails */
         rc = sqlite3_create_function_v2(
             db, f->name, f->arguments, SQLITE_UTF8 | SQLITE_DETERMINISTIC | SQLITE_INNOCUOUS, &connection->bindings[i],
-            f->form == PATCH ? patch : operation, 0, 0, release_binding);
+            body(f->form), 0, 0, release_binding);
         if (rc != SQLITE_OK)
             *message = sqlite3_mprintf("%s: %s", f->name, sqlite3_errmsg(db));
     }

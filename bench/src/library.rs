@@ -2,54 +2,11 @@
 
 use std::hint::black_box;
 
+use viskorrel_sys::*;
+
 use crate::measure::Answer;
 use crate::small::TOLERANCE;
 use crate::workload::{Op, Pair};
-
-#[repr(C)]
-struct Reply {
-    case: u32,
-    number: u32,
-    side: u32,
-    value: f64,
-}
-
-#[repr(C)]
-struct Sizes {
-    case: u32,
-    number: u32,
-    side: u32,
-    floats: usize,
-    table: usize,
-}
-
-const NOTHING: u32 = 0;
-const ANSWERED: u32 = 1;
-
-const LINE_BYTES: usize = 65;
-
-/// Declares an operation on two blobs, each with its workspace.
-macro_rules! two_blobs {
-    ($name:ident $(, number $number:ident)? $(, output $output:ident $length:ident)?) => {
-        unsafe extern "C" {
-            fn $name(
-                a: *const u8, a_length: usize, b: *const u8, b_length: usize, $($number: f64,)?
-                floats1: *mut f64, floats1_length: usize, table1: *mut u32, table1_length: usize,
-                floats2: *mut f64, floats2_length: usize, table2: *mut u32, table2_length: usize,
-                $($output: *mut u8, $length: usize,)?
-            ) -> Reply;
-        }
-    };
-}
-
-two_blobs!(viskorrel_3d_distance);
-two_blobs!(viskorrel_3d_dwithin, number d);
-two_blobs!(viskorrel_3d_shortest_line, output output output_length);
-two_blobs!(viskorrel_3d_longest_line, output output output_length);
-
-unsafe extern "C" {
-    fn viskorrel_sizes(blob: *const u8, length: usize) -> Sizes;
-}
 
 /// A side's workspace.
 struct Workspace {
@@ -63,9 +20,9 @@ impl Workspace {
         let (mut floats, mut table) = (1, 1);
         for blob in blobs {
             let sizes = unsafe { viskorrel_sizes(blob.as_ptr(), blob.len()) };
-            assert!(sizes.case == ANSWERED, "refused: {} of side {}", sizes.number, sizes.side);
-            floats = floats.max(sizes.floats);
-            table = table.max(sizes.table);
+            assert!(sizes.outcome == ANSWERED, "refused: {} of side {}", sizes.number, sizes.side);
+            floats = floats.max(sizes.first);
+            table = table.max(sizes.second);
         }
         Workspace { floats: vec![0.0; floats], table: vec![0; table] }
     }
@@ -111,8 +68,8 @@ impl Library {
 
     pub fn answer(&mut self, op: Op, pair: &Pair) -> Answer {
         let reply = self.reply(op, pair);
-        match (reply.case, op) {
-            (NOTHING | ANSWERED, Op::Within) => Answer::Truth(reply.case == ANSWERED),
+        match (reply.outcome, op) {
+            (NOTHING | ANSWERED, Op::Within) => Answer::Truth(reply.outcome == ANSWERED),
             (NOTHING, _) => Answer::Nothing,
             (ANSWERED, Op::Distance) => Answer::Number(reply.value),
             (ANSWERED, _) => Answer::Line(self.output.to_vec()),

@@ -1,71 +1,8 @@
 //! Our library as C sees it, and the memory that is lent to it. Nothing else in the comparison knows its interface.
 
+use viskorrel_sys::*;
+
 use crate::call::{Call, Op};
-
-/// What every operation returns but `patch` and `sizes`. A predicate answers 0 for no and 1 for yes.
-#[repr(C)]
-#[derive(Debug, Clone, Copy)]
-struct Reply {
-    case: u32,
-    number: u32,
-    side: u32,
-    value: f64,
-}
-
-/// What `patch` (start and end) and `sizes` (floats and numbers) return.
-#[repr(C)]
-#[derive(Debug, Clone, Copy)]
-struct Pair {
-    case: u32,
-    number: u32,
-    side: u32,
-    first: usize,
-    second: usize,
-}
-
-const NOTHING: u32 = 0;
-const ANSWERED: u32 = 1;
-const REFUSED: u32 = 2;
-const NO_SURFACE: u32 = 3;
-
-/// Declares an operation on two blobs, each with its workspace.
-macro_rules! two_blobs {
-    ($name:ident $(, number $number:ident)? $(, output $output:ident $length:ident)?) => {
-        unsafe extern "C" {
-            fn $name(
-                a: *const u8, a_length: usize, b: *const u8, b_length: usize, $($number: f64,)?
-                floats1: *mut f64, floats1_length: usize, table1: *mut u32, table1_length: usize,
-                floats2: *mut f64, floats2_length: usize, table2: *mut u32, table2_length: usize,
-                $($output: *mut u8, $length: usize,)?
-            ) -> Reply;
-        }
-    };
-}
-
-two_blobs!(viskorrel_3d_distance);
-two_blobs!(viskorrel_3d_max_distance);
-two_blobs!(viskorrel_3d_intersects);
-two_blobs!(viskorrel_3d_dwithin, number d);
-two_blobs!(viskorrel_3d_dfully_within, number d);
-two_blobs!(viskorrel_3d_closest_point, output output output_length);
-two_blobs!(viskorrel_3d_shortest_line, output output output_length);
-two_blobs!(viskorrel_3d_longest_line, output output output_length);
-
-unsafe extern "C" {
-    fn viskorrel_3d_line_interpolate_point(
-        blob: *const u8,
-        length: usize,
-        fraction: f64,
-        floats: *mut f64,
-        floats_length: usize,
-        table: *mut u32,
-        table_length: usize,
-        output: *mut u8,
-        output_length: usize,
-    ) -> Reply;
-    fn viskorrel_patch(blob: *const u8, length: usize, n: u64) -> Pair;
-    fn viskorrel_sizes(blob: *const u8, length: usize) -> Pair;
-}
 
 /// A lent slice that stands between guards, which no call may change.
 #[derive(Debug, Clone)]
@@ -135,7 +72,7 @@ pub enum Returned {
     NoSurface,
     Lengths(usize, usize),
     Refused(u32, u32),
-    /// A case that the interface does not have.
+    /// An outcome that the interface does not have.
     Unknown(u32),
 }
 
@@ -167,7 +104,7 @@ pub fn run(call: &Call, memory: &mut Memory) -> Returned {
 
 fn returned(op: Op, reply: Reply) -> Returned {
     let predicate = matches!(op, Op::DWithin | Op::DFullyWithin | Op::Intersects);
-    match reply.case {
+    match reply.outcome {
         REFUSED => Returned::Refused(reply.number, reply.side),
         NOTHING if predicate => Returned::Truth(false),
         ANSWERED if predicate => Returned::Truth(true),
@@ -179,7 +116,7 @@ fn returned(op: Op, reply: Reply) -> Returned {
 }
 
 fn returned_pair(pair: Pair, answer: fn(usize, usize) -> Returned) -> Returned {
-    match pair.case {
+    match pair.outcome {
         NOTHING => Returned::Nothing,
         ANSWERED => answer(pair.first, pair.second),
         REFUSED => Returned::Refused(pair.number, pair.side),

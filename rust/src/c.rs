@@ -11,56 +11,38 @@
 //! Lengths count elements, as those of slices do. The functions keep no pointer, and neither unwind nor call back.
 
 use crate::Refusal;
+use viskorrel_sys as sys;
 
-/// What came of a call.
-const ANSWERED: u32 = 1;
-const REFUSED: u32 = 2;
-const NO_SURFACE: u32 = 3;
+pub use sys::{Pair, Reply};
 
-/// `viskorrel_reply`
-#[repr(C)]
-#[derive(Clone, Copy)]
-pub struct Reply {
-    outcome: u32,
-    number: u32,
-    side: u32,
-    pub value: f64,
-}
-
-/// `viskorrel_pair`
-#[repr(C)]
-#[derive(Clone, Copy)]
-pub struct Pair {
-    outcome: u32,
-    number: u32,
-    side: u32,
-    pub first: usize,
-    pub second: usize,
-}
-
-impl Reply {
+/// What a reply says.
+pub trait Outcome {
     /// Whether there is an answer, or yes is the answer.
-    pub fn answered(self) -> Result<bool, Refusal> {
-        match self.outcome {
-            REFUSED => Err(Refusal { number: self.number, side: self.side }),
-            outcome => Ok(outcome == ANSWERED),
-        }
+    fn answered(self) -> Result<bool, Refusal>;
+}
+
+fn answered(outcome: u32, number: u32, side: u32) -> Result<bool, Refusal> {
+    match outcome {
+        sys::REFUSED => Err(Refusal { number, side }),
+        outcome => Ok(outcome == sys::ANSWERED),
     }
 }
 
-impl Pair {
-    /// Whether there is an answer.
-    pub fn answered(self) -> Result<bool, Refusal> {
-        match self.outcome {
-            REFUSED => Err(Refusal { number: self.number, side: self.side }),
-            outcome => Ok(outcome == ANSWERED),
-        }
+impl Outcome for Reply {
+    fn answered(self) -> Result<bool, Refusal> {
+        answered(self.outcome, self.number, self.side)
     }
+}
 
-    /// Whether a patch was asked of a blob that is no surface.
-    pub fn no_surface(self) -> bool {
-        self.outcome == NO_SURFACE
+impl Outcome for Pair {
+    fn answered(self) -> Result<bool, Refusal> {
+        answered(self.outcome, self.number, self.side)
     }
+}
+
+/// Whether a patch was asked of a blob that is no surface.
+pub fn is_no_surface(pair: Pair) -> bool {
+    pair.outcome == sys::NO_SURFACE
 }
 
 /// The memory that one blob is read into. Two of them, each borrowed with `&mut`, do not overlap.
@@ -70,23 +52,15 @@ pub struct Workspace {
     pub table: Vec<u32>,
 }
 
-/// Declares an export on two blobs, and the safe function over it. The export's number and output are named where it has them.
+/// The safe function over an export on two blobs. The export's number and output are named where it has them.
 macro_rules! on_two_blobs {
     ($(fn $name:ident = $export:ident ( $(number $number:ident)? $(output $output:ident)? );)*) => {
-        extern "C" {
-            $(fn $export(
-                a: *const u8, a_length: usize, b: *const u8, b_length: usize, $($number: f64,)?
-                floats1: *mut f64, floats1_length: usize, table1: *mut u32, table1_length: usize,
-                floats2: *mut f64, floats2_length: usize, table2: *mut u32, table2_length: usize,
-                $($output: *mut u8, output_length: usize)?
-            ) -> Reply;)*
-        }
         $(pub fn $name(
             a: &[u8], b: &[u8], $($number: f64,)? one: &mut Workspace, two: &mut Workspace, $($output: &mut [u8])?
         ) -> Reply {
             // SAFETY: every pointer and length are those of one live slice; see the head of this module.
             unsafe {
-                $export(
+                sys::$export(
                     a.as_ptr(), a.len(), b.as_ptr(), b.len(), $($number,)?
                     one.floats.as_mut_ptr(), one.floats.len(), one.table.as_mut_ptr(), one.table.len(),
                     two.floats.as_mut_ptr(), two.floats.len(), two.table.as_mut_ptr(), two.table.len(),
@@ -108,37 +82,21 @@ on_two_blobs! {
     fn longest_line = viskorrel_3d_longest_line(output output);
 }
 
-extern "C" {
-    fn viskorrel_sizes(blob: *const u8, length: usize) -> Pair;
-    fn viskorrel_patch(blob: *const u8, length: usize, n: u64) -> Pair;
-    fn viskorrel_3d_line_interpolate_point(
-        blob: *const u8,
-        length: usize,
-        fraction: f64,
-        floats: *mut f64,
-        floats_length: usize,
-        table: *mut u32,
-        table_length: usize,
-        output: *mut u8,
-        output_length: usize,
-    ) -> Reply;
-}
-
 pub fn sizes(blob: &[u8]) -> Pair {
     // SAFETY: pointer and length are those of one live slice; see the head of this module.
-    unsafe { viskorrel_sizes(blob.as_ptr(), blob.len()) }
+    unsafe { sys::viskorrel_sizes(blob.as_ptr(), blob.len()) }
 }
 
 pub fn patch(blob: &[u8], n: u64) -> Pair {
     // SAFETY: pointer and length are those of one live slice; see the head of this module.
-    unsafe { viskorrel_patch(blob.as_ptr(), blob.len(), n) }
+    unsafe { sys::viskorrel_patch(blob.as_ptr(), blob.len(), n) }
 }
 
 pub fn line_interpolate_point(blob: &[u8], fraction: f64, workspace: &mut Workspace, output: &mut [u8]) -> Reply {
     let Workspace { floats, table } = workspace;
     // SAFETY: every pointer and length are those of one live slice; see the head of this module.
     unsafe {
-        viskorrel_3d_line_interpolate_point(
+        sys::viskorrel_3d_line_interpolate_point(
             blob.as_ptr(),
             blob.len(),
             fraction,

@@ -29,7 +29,11 @@ mod refusal;
 pub use measurer::Measurer;
 pub use refusal::Refusal;
 
+use c::Outcome;
 use std::cell::RefCell;
+
+/// The version of this crate, and of the library that it was made for.
+pub const VERSION: &str = env!("CARGO_PKG_VERSION");
 
 /// What a blob takes of a workspace, counted in elements.
 #[derive(Clone, Copy, Debug, PartialEq, Eq)]
@@ -62,7 +66,7 @@ pub fn patch(blob: &[u8], n: u64) -> Result<Patch<'_>, Refusal> {
     let pair = c::patch(blob, n);
     Ok(match pair.answered()? {
         true => Patch::Part(&blob[pair.first..pair.second]),
-        false if pair.no_surface() => Patch::NoSurface,
+        false if c::is_no_surface(pair) => Patch::NoSurface,
         false => Patch::Nothing,
     })
 }

@@ -1,10 +1,6 @@
-use crate::c::{self, Reply, Workspace};
+use crate::c::{self, Outcome, Reply, Workspace};
 use crate::Refusal;
-
-/// The bytes of a written point.
-const POINT_BYTES: usize = 37;
-/// The bytes of a written line.
-const LINE_BYTES: usize = 65;
+use viskorrel_sys::{LINE_BYTES, POINT_BYTES};
 
 /// The number of the refusal that a workspace is too short.
 const WORKSPACE_TOO_SHORT: u32 = 15;

@@ -1,0 +1,55 @@
+"""The nearest of many: each feature of one list against all of another, measured by the library, with progress."""
+import sys
+import time
+
+import viskorrel
+from dig.measure import told
+from dig.problems import Problems
+
+WAIT = 0.3      # seconds between signs of progress on a terminal
+TOLD = 5.0      # and elsewhere
+
+
+class Progress:
+    """How many of the pairs are done, and the time left; nothing is said of what is done at once."""
+
+    def __init__(self, rows, columns, noun):
+        self.whole, self.columns, self.noun, self.start = rows * columns, columns, noun, time.monotonic()
+        self.terminal, self.shown = sys.stderr.isatty(), time.monotonic()
+
+    def at(self, rows):
+        now, done = time.monotonic(), rows * self.columns
+        if now - self.shown < (WAIT if self.terminal else TOLD) or done >= self.whole:
+            return
+        self.shown = now
+        left = (now - self.start) * (self.whole - done) / done
+        line = f"{done:,} of {self.whole:,} {self.noun}, about {left:.0f} s left"
+        print(f"\r\033[K{line}" if self.terminal else line, end="" if self.terminal else "\n", file=sys.stderr, flush=True)
+
+    def end(self):
+        if self.terminal and self.shown > self.start + WAIT / 2:
+            print("\r\033[K", end="", file=sys.stderr, flush=True)
+
+
+def nearest(ones, many, noun, box_test=True):
+    """For each of `ones` the place in `many` of the nearest, the first of several as near, and the distance; (None, None) if `many` is empty."""
+    if not many:
+        return [(None, None)] * len(ones)
+    progress = Progress(len(ones), len(many), noun)
+    try:
+        found = viskorrel.nearest([one.blob for one in ones], [other.blob for other in many], boxes=box_test, progress=progress.at)
+    finally:
+        progress.end()
+    if found.faults:
+        raise Problems(*[f"{pair(ones[at], many[place])}: {words(fault)}" for at, (place, fault) in sorted(found.faults.items())])
+    return list(zip(found.places, found.distances))
+
+
+def pair(one, other):
+    return f"{one.table}, feature {one.id} with {other.table}, feature {other.id}"
+
+
+def words(fault):
+    if isinstance(fault, viskorrel.Refusal):
+        return told(fault)
+    return "there is no distance" if fault is None else f"the distance is {fault}"

@@ -1,0 +1,98 @@
+"""The files that a run writes: all of them or none, and none of an earlier run left where it would look current."""
+import os
+import stat
+
+from dig.opening import ASIDE
+from dig.problems import Problems
+
+EARLIER = ".earlier"
+
+
+class Outputs:
+    """In a `with`: `add` each file as it is ready, `publish` all at the end. Any failure undoes all, and tells so in its `told`."""
+
+    def __init__(self, paths, inputs):
+        self.paths, self.set_aside_paths, self.ready, self.new = list(paths), [], [], []
+        taken = [(path + end, f"{path}{end}") for path in inputs for end in ("",) + ASIDE]
+        for path in self.paths:
+            for other, name in taken:
+                if same(path, other):
+                    raise Problems(f"{path}: an output must be a file of its own, not {name}")
+            taken += [(path + end, path + end) for end in ("", EARLIER)]
+
+    def __enter__(self):
+        try:
+            self.set_aside()
+        except BaseException as fault:
+            fault.told = self.told()
+            raise
+        return self
+
+    def __exit__(self, kind, fault, trace):
+        if fault is None:
+            self.finish()
+        else:
+            self.undo()
+            fault.told = self.told()
+
+    def set_aside(self):
+        """Outputs of an earlier run get another name before anything can fail."""
+        for path in self.paths:
+            try:
+                if not stat.S_ISREG(os.lstat(path).st_mode) and not os.path.isfile(path):
+                    raise Problems(f"{path}: is there and is no regular file: it is left alone")
+            except FileNotFoundError:
+                continue
+            os.replace(path, path + EARLIER)
+            self.set_aside_paths.append(path)
+
+    def add(self, path, make):
+        """`make` writes the file under a name that it is given."""
+        unfinished = f"{path}.{os.getpid()}"
+        self.ready.append((unfinished, path))
+        try:
+            make(unfinished)
+            descriptor = os.open(unfinished, os.O_RDONLY)
+            try:
+                os.fsync(descriptor)
+            finally:
+                os.close(descriptor)
+        except OSError as fault:
+            raise Problems(f"{path}: cannot be written: {fault.strerror or fault}") from fault
+
+    def text(self, path, content):
+        def make(unfinished):
+            with open(unfinished, "w", encoding="utf-8", newline="") as file:
+                file.write(content)
+        self.add(path, make)
+
+    def publish(self):
+        for unfinished, path in self.ready:
+            os.replace(unfinished, path)
+            self.new.append(path)
+
+    def undo(self):
+        """After a failure: nothing new stays."""
+        for unfinished, path in self.ready:
+            for leftover in (unfinished, unfinished + "-journal", path if path in self.new else None):
+                if leftover and os.path.lexists(leftover):
+                    os.remove(leftover)
+
+    def finish(self):
+        """After success: what was set aside, by this run or by a failed one before it, is replaced."""
+        for path in self.paths:
+            if os.path.lexists(path + EARLIER):
+                os.remove(path + EARLIER)
+
+    def told(self):
+        """What to say after a failure."""
+        return [f"{path} of an earlier run is now {path}{EARLIER}" for path in self.set_aside_paths]
+
+
+def same(path, other):
+    if os.path.realpath(path) == os.path.realpath(other):
+        return True
+    try:
+        return os.path.samefile(path, other)
+    except OSError:
+        return False

@@ -1,0 +1,23 @@
+"""3D measures between geometries, by the proved library.
+
+    import viskorrel
+    viskorrel.distance(a, b)              # a number, or None where a side has nothing to measure
+    viskorrel.batch.distance(a, many)     # one against many, in one call
+
+A geometry is bytes (GeoPackage blob, WKB or EWKB) or shapely's. Bytes that can't be measured raise Refusal, with its number and words.
+"""
+from . import batch
+from ._geometry import Blobs, srid, wkb
+from ._library import LibraryMissing, load
+from ._nearest import Nearest, nearest
+from ._operations import (
+    NoSurface, closest_point, dfully_within, distance, dwithin, intersects, library_version, line_interpolate_point, longest_line,
+    max_distance, patch, read, refusal, shortest_line, sizes)
+from ._refusal import Refusal
+
+__version__ = "0.2.0"
+
+__all__ = [
+    "Blobs", "LibraryMissing", "Nearest", "NoSurface", "Refusal", "batch", "closest_point", "dfully_within", "distance", "dwithin", "intersects",
+    "library_version", "line_interpolate_point", "load", "longest_line", "max_distance", "nearest", "patch", "read", "refusal", "shortest_line",
+    "sizes", "srid", "wkb"]

@@ -1,0 +1,164 @@
+"""The operations on one or two geometries."""
+import ctypes
+import struct
+import threading
+
+from ._geometry import blob
+from ._library import ANSWERED, LINE_BYTES, NO_SURFACE, POINT_BYTES, REFUSED, library
+from ._refusal import Refusal
+
+TOO_SHORT = 15  # the refusal of a workspace
+POINT = struct.pack("<BI3d", 1, 1001, 0, 0, 0)  # a geometry to measure against where any will do
+
+
+class Memory(threading.local):
+    """What is lent, one for each thread; it grows with the largest geometries, and changes no answer."""
+
+    def __init__(self):
+        self.sides = [None, None]
+        self.lend(0, 3, 2)
+        self.lend(1, 3, 2)
+        self.output = ctypes.create_string_buffer(LINE_BYTES)
+
+    def lend(self, side, floats, table):
+        lent = (ctypes.c_double * floats)(), (ctypes.c_uint32 * table)()
+        self.sides[side] = lent
+        self.workspaces = [part for lent in self.sides if lent
+                           for part in (ctypes.addressof(lent[0]), len(lent[0]), ctypes.addressof(lent[1]), len(lent[1]))]
+
+    def lengthen(self, side, geometry):
+        needed = library().viskorrel_sizes(geometry, len(geometry))
+        floats, table = self.sides[side]
+        self.lend(side, max(needed.first, len(floats)), max(needed.second, len(table)))
+
+
+MEMORY = Memory()
+
+
+def ask(name, blobs, number=(), output=()):
+    """The reply to a call. A workspace is looked at last, and a refused call changes nothing: where it is too short, lengthen, ask again."""
+    function = getattr(library(), name)
+    given = [part for geometry in blobs for part in (geometry, len(geometry))]
+    for _ in range(3):
+        reply = function(*given, *number, *MEMORY.workspaces[:4 * len(blobs)], *output)
+        if reply.outcome != REFUSED or reply.number != TOO_SHORT:
+            break
+        MEMORY.lengthen(reply.side - 1, blobs[reply.side - 1])
+    if reply.outcome == REFUSED:
+        raise Refusal(reply.number, reply.side, blobs[reply.side - 1] if reply.side else None)
+    return reply
+
+
+def value(name, a, b):
+    reply = ask(name, (blob(a), blob(b)))
+    return reply.value if reply.outcome == ANSWERED else None
+
+
+def written(name, length, blobs, number=()):
+    output = MEMORY.output
+    reply = ask(name, blobs, number, (ctypes.addressof(output), length))
+    return output.raw[:length] if reply.outcome == ANSWERED else None
+
+
+def distance(a, b):
+    """The least distance (may be NaN); None where a side has nothing to measure."""
+    return value("viskorrel_3d_distance", a, b)
+
+
+def max_distance(a, b):
+    """The greatest distance between vertices (may be NaN); None where a side has none."""
+    return value("viskorrel_3d_max_distance", a, b)
+
+
+def intersects(a, b):
+    """Whether the least distance is 0."""
+    return ask("viskorrel_3d_intersects", (blob(a), blob(b))).outcome == ANSWERED
+
+
+def dwithin(a, b, d):
+    """Whether the least distance is at most d."""
+    return ask("viskorrel_3d_dwithin", (blob(a), blob(b)), (d,)).outcome == ANSWERED
+
+
+def dfully_within(a, b, d):
+    """Whether the greatest distance is at most d."""
+    return ask("viskorrel_3d_dfully_within", (blob(a), blob(b)), (d,)).outcome == ANSWERED
+
+
+def closest_point(a, b):
+    """The point of a at the least distance, a GeoPackage blob; None where a side has nothing to measure."""
+    return written("viskorrel_3d_closest_point", POINT_BYTES, (blob(a), blob(b)))
+
+
+def shortest_line(a, b):
+    """The line from a to b at the least distance, a GeoPackage blob; None where a side has nothing to measure."""
+    return written("viskorrel_3d_shortest_line", LINE_BYTES, (blob(a), blob(b)))
+
+
+def longest_line(a, b):
+    """The line from a vertex of a to one of b at the greatest distance, a GeoPackage blob; None where a side has none."""
+    return written("viskorrel_3d_longest_line", LINE_BYTES, (blob(a), blob(b)))
+
+
+def line_interpolate_point(line, fraction):
+    """The point at a fraction of the length of the geometry's lines, a GeoPackage blob."""
+    return written("viskorrel_3d_line_interpolate_point", POINT_BYTES, (blob(line),), (fraction,))
+
+
+class NoSurface(ValueError):
+    """The geometry is no polyhedral surface, TIN or triangle, or what stands before its content is at fault."""
+
+
+def patch(surface, n):
+    """Patch n of a surface, counted from 0, as bare WKB; None where there is no patch n."""
+    if not 0 <= n < 2**64:
+        raise ValueError("n is not within 0..2^64-1")
+    geometry = blob(surface)
+    pair = library().viskorrel_patch(geometry, len(geometry), n)
+    if pair.outcome == REFUSED:
+        raise Refusal(pair.number, pair.side, geometry)
+    if pair.outcome == NO_SURFACE:
+        raise NoSurface("the geometry is no surface")
+    return geometry[pair.first:pair.second] if pair.outcome == ANSWERED else None
+
+
+def refusal(geometry):
+    """None, or the Refusal that the geometry gets as a side of an operation on two."""
+    geometry = blob(geometry)
+    reply = library().viskorrel_blob_refusal(geometry, len(geometry))
+    if reply.outcome == REFUSED:
+        return Refusal(reply.number, reply.side, geometry)
+    if reply.outcome != ANSWERED:
+        raise MemoryError
+    return None
+
+
+def read(geometry):
+    """The points, lines and rings of a geometry with Z, as the library reads them: a list of (kind, vertices).
+
+    kind is 1 for a point, 2 for a line, 3 for a polygon's ring, 17 for a triangle's; a vertex is (x, y, z).
+    """
+    geometry = blob(geometry)
+    ask("viskorrel_3d_max_distance", (geometry, POINT))  # reads it into the first workspace
+    floats, table = MEMORY.sides[0]
+    runs, at = [], 0
+    for place in range(0, sizes(geometry)[1], 2):
+        kind, count = table[place:place + 2]
+        ordinates = floats[at:at + 3 * count]
+        runs.append((kind, list(zip(ordinates[0::3], ordinates[1::3], ordinates[2::3]))))
+        at += 3 * count
+    return runs
+
+
+def sizes(geometry):
+    """The lengths of the workspace that a geometry takes: floats (three for each coordinate) and numbers (two for each run)."""
+    geometry = blob(geometry)
+    pair = library().viskorrel_sizes(geometry, len(geometry))
+    if pair.outcome == REFUSED:
+        raise Refusal(pair.number, pair.side, geometry)
+    return pair.first, pair.second
+
+
+def library_version():
+    """The version of the shared object; the package's own is __version__."""
+    return library().viskorrel_version().decode()
