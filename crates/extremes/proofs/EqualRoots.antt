@@ -1,8 +1,7 @@
 -- Two sums whose roots compare equal have the same root, where the first is not at most the second: no root is +0 and the other -0. Assumes nothing.
-use mathlib.Core.Path.{_≡_, refl, sym, ap, _∙_, subst}
+use mathlib.Core.Path.{_≡_, refl, sym, ap, _∙_}
 use mathlib.Core.Bool.{Bool, true, false, _||_, true≢false, false≢true}
-use mathlib.Core.Logic.{_⊎_, inl, inr}
-use Prim.Native.Nat.{ℕ, zero, suc, _+_, _*_, _≤_, _<_}
+use Prim.Native.Nat.{ℕ, zero, suc, _+_, _*_, _<_}
 use native.Mathlib.Nat.{zero-mul, mul-pos, zero-lt-suc}
 use native.Mathlib.Omega.{arith}
 use borrow.Author.Tests.{eqb-true, ltb-true, ltb-false}
@@ -12,7 +11,7 @@ use lib.Ieee.{Float, nan, inf, fin, binary64, up, down, lt, le, eq, fits, ofBits
 use lib.Ieee.Bits.{ofBits-toBits}
 use lib.Ieee.Fits.{up-pos, down-pos}
 use lib.Ieee.Positive.{positive}
-use Rattle.ieee754.specs.Root.{unitsOf, unitsOfPattern, rootPattern, rootOf}
+use Rattle.ieee754.specs.Root.{unitsOf, unitsOfPattern, rootOf}
 use Rattle.ieee754.proofs.FloatRanks.{rankOf, eq-by-rank}
 use Rattle.ieee754.proofs.NotBelowZero.{both-left}
 use Rattle.ieee754.proofs.PatternUnits.{units-step, units-keep-order}
