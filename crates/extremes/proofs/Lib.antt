@@ -1,4 +1,4 @@
--- The laws of pairs, of boxes over points, and of folds that skip.
+-- The laws of pairs, of boxes over points, of folds that skip, and of the best so far.
 pub mod Lists
 pub mod Skipping
 pub mod PairLists

@@ -1,9 +1,9 @@
 -- A witness offered to the best so far, in either sense: when it changes nothing, when only its sum is kept, and what a new best is. Assumes nothing.
-use mathlib.Core.Path.{_≡_, refl, sym, ap, _∙_, subst}
+use mathlib.Core.Path.{_≡_, refl, sym, _∙_, subst}
 use mathlib.Core.Bool.{Bool, true, false, cond, false≢true}
-use mathlib.Core.Option.{Option, none, some}
+use mathlib.Core.Option.{none, some}
 use lib.Dec.{T}
-use lib.Ieee.{Float, nan, binary64, lt, eq, fits}
+use lib.Ieee.{Float, nan, binary64, eq, fits}
 use Rattle.ieee754.specs.MinMax.{positiveZero}
 use Rattle.ieee754.specs.Root.{rootOf}
 use Rattle.ieee754.proofs.FloatOrder.{nan-le, le-nan}

@@ -1,16 +1,15 @@
 -- One turn of a loop over the runs of a class: what the run adds, and what is left. Assumes nothing.
-use mathlib.Core.Path.{_≡_, refl, sym, ap, _∙_}
+use mathlib.Core.Path.{_≡_, refl}
 use mathlib.Core.Bool.{Bool, true, false, cond, _||_, true≢false}
 use mathlib.Core.List.{List, [], _∷_, _++_}
-use Prim.Native.Nat.{ℕ, zero, suc, _+_, _*_, _<_, _≤_}
+use Prim.Native.Nat.{ℕ, _+_, _*_, _<_, _≤_}
 use native.Mathlib.Omega.{arith}
 use lib.Dec.{eqb}
 use lib.ListN.{length, drop, length-drop}
 use lib.Ieee.{Float}
 use borrow.Author.Tests.{eq-eqb, ne-eqb}
-use Rattle.coords.specs.Parts.{Run, run}
-use Rattle.workspace.specs.Workspace.{floatsPerCoordinate, numbersPerRun}
-use Rattle.parts.specs.Stored.{pointsFrom, runsFrom, storedRuns, runCount, kindAt, countAt, pointCount, Laid}
+use Rattle.workspace.specs.Workspace.{numbersPerRun}
+use Rattle.parts.specs.Stored.{pointsFrom, runsFrom, storedRuns, runCount, countAt}
 use Rattle.parts.proofs.Turns.{length-points, table-next, runs-next, runs-none}
 use Rattle.primitives.specs.declared.Point.{Point}
 use Rattle.farthest.specs.Inner.{vertexClass, classAt, classVertices, occurs}

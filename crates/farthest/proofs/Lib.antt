@@ -3,6 +3,7 @@ pub mod Unskipped
 pub mod LongestLine
 pub mod Repeated
 pub mod OfferedPair
+pub mod NanStays
 pub mod Appended
 pub mod PointTurns
 pub mod ClassTurns

@@ -1,5 +1,5 @@
 -- Two points offered to the best pair, by their sum of squares. Assumes nothing.
-use mathlib.Core.Path.{_≡_, refl, sym, _∙_}
+use mathlib.Core.Path.{_≡_, sym, _∙_}
 use mathlib.Core.Bool.{true, false}
 use lib.Dec.{T}
 use lib.Ieee.{Float, binary64, le, lt, eq, fits}

@@ -1,7 +1,7 @@
 -- Walking each vertex of a line once, where the definition has both ends of each segment, changes no answer. Assumes nothing.
 use mathlib.Core.Path.{_≡_, refl, sym, ap, _∙_}
 use mathlib.Core.Bool.{Bool, true, false, cond, _&&_}
-use mathlib.Core.List.{List, [], _∷_, _++_, foldl}
+use mathlib.Core.List.{List, [], _∷_}
 use mathlib.Core.Option.{Option, none, some}
 use Prim.Native.Nat.{ℕ, suc}
 use lib.Dec.{eqb, ltb}
@@ -9,14 +9,14 @@ use lib.ListN.{length}
 use lib.Ieee.{isNan}
 use native.Mathlib.Omega.{arith}
 use borrow.Author.Tests.{eqb-true, le-ltb}
-use Rattle.coords.specs.Parts.{Run, run, isPoint, isLine, isFace, pointVertices, endsFrom, segmentEnds, segmentVertices, faceVertices, verticesOf}
+use Rattle.coords.specs.Parts.{Run, run, isLine, pointVertices, endsFrom, segmentEnds, segmentVertices, faceVertices, verticesOf}
 use Rattle.parts.specs.Classes.{runClass}
 use Rattle.parts.proofs.Classes.{class-points, class-lines, class-faces}
 use Rattle.primitives.specs.declared.Point.{Point}
 use Rattle.primitives.specs.declared.Witness.{Witness}
 use Rattle.primitives.specs.declared.Aabb.{Aabb}
 use Rattle.primitives.specs.Boxes.{boxOfPoint, addPoint}
-use Rattle.extremes.specs.Sweeps.{skipping, boxOfAll}
+use Rattle.extremes.specs.Sweeps.{boxOfAll}
 use Rattle.extremes.proofs.Repeats.{Repeats, done, once, again, no-repeats, repeats-append, box-repeats}
 use Rattle.extremes.proofs.Taking.{Made, nothing}
 use Rattle.extremes.proofs.Skipping.{skipping-stays}

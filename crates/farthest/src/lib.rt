@@ -1,11 +1,11 @@
-// The farthest sweep: the first longest pair of a vertex of side 1 and a vertex of side 2, by plain loops over the runs of two workspaces.
+// The farthest sweep: a vertex of side 1 and one of side 2 that are farthest apart, by plain loops over the runs of two workspaces.
 //
 // 1. Side 2 is looked through once: which classes of runs occur, and the box of all its vertices (`Outline`).
 // 2. Each vertex of side 1 meets each vertex of side 2 (`visit_all`, from a given best on). Both go class by class, points, lines, faces, and in
 //    a class run by run. The first pair is taken, a later one only if strictly longer.
 // 3. Left out, since no answer changes by it (laws in proofs/):
 //    - a vertex of side 1 whose greatest squared gap to the box, times 1 + 2^-49 for what rounding may take, is at most the best's square
-//      (`no_farther`; Unskipped), and every vertex once the best is NaN, since nothing is longer than NaN (`visit`; Appended);
+//      (`no_farther`; Unskipped), and every vertex once the best is NaN, since nothing is longer than NaN (`visit`; NanStays);
 //    - the root of a sum of squares that is no greater than the best's, whose root is no greater either (`against_run`; OfferedPair);
 //    - what the definition meets twice: each inner vertex of a line, the end of one segment and the start of the next (VerticesOnce);
 //    - classes that do not occur (`against_class`, `visit_class`, `box_class`; ClassTurns).

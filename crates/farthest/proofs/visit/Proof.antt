@@ -2,7 +2,7 @@
 use borrow.Author.Needs.{needs}
 use Rattle.extremes.specs.Sweeps.{skipping}
 use Rattle.farthest.specs.Inner.{swept}
-use Rattle.farthest.proofs.Appended.{nan-swept}
+use Rattle.farthest.proofs.NanStays.{nan-swept}
 use Rattle.farthest.proofs.visit.Statement.{statement}
 use Rattle.farthest.proofs.visit.Tie as tie
 
