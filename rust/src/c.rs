@@ -111,6 +111,8 @@ on_two_blobs! {
 extern "C" {
     fn viskorrel_sizes(blob: *const u8, length: usize) -> Pair;
     fn viskorrel_patch(blob: *const u8, length: usize, n: u64) -> Pair;
+    fn viskorrel_patches(blob: *const u8, length: usize) -> Pair;
+    fn viskorrel_next_patch(blob: *const u8, length: usize, at: usize, left: usize) -> Pair;
     fn viskorrel_3d_line_interpolate_point(
         blob: *const u8,
         length: usize,
@@ -132,6 +134,16 @@ pub fn sizes(blob: &[u8]) -> Pair {
 pub fn patch(blob: &[u8], n: u64) -> Pair {
     // SAFETY: pointer and length are those of one live slice; see the head of this module.
     unsafe { viskorrel_patch(blob.as_ptr(), blob.len(), n) }
+}
+
+pub fn patches(blob: &[u8]) -> Pair {
+    // SAFETY: pointer and length are those of one live slice; see the head of this module.
+    unsafe { viskorrel_patches(blob.as_ptr(), blob.len()) }
+}
+
+pub fn next_patch(blob: &[u8], at: usize, left: usize) -> Pair {
+    // SAFETY: pointer and length are those of one live slice; see the head of this module.
+    unsafe { viskorrel_next_patch(blob.as_ptr(), blob.len(), at, left) }
 }
 
 pub fn line_interpolate_point(blob: &[u8], fraction: f64, workspace: &mut Workspace, output: &mut [u8]) -> Reply {
