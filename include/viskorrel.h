@@ -197,12 +197,43 @@ viskorrel_reply viskorrel_3d_line_interpolate_point(
     uint8_t *output, size_t output_length);
 
 /*
- * Where patch n of a surface stands in its blob, counted from 0: from byte first up to byte second, which is no more part of it.
- * Nothing: there is no patch n. No surface: the blob is no polyhedral surface, TIN or triangle, or what stands before its geometry's content
- * is at fault. A triangle is its own patch 0, to the blob's end.
- * Lent: the blob. Changed: nothing. Refusals: 9 and 10, from any patch.
+ * PATCHES of a polyhedral surface, TIN or triangle, counted from 0. A triangle is its own patch 0, to the blob's end.
+ * No surface: the blob is none of these, or its GeoPackage header, its first byte order or its type is at fault or cut off. A fault after
+ * the type is refused, with 9 or 10 as side 1: the surface's SRID or count, or any patch, whichever is asked for. A triangle is never refused.
+ *
+ * viskorrel_patch scans every patch, for each n anew. To walk all patches of a large surface, scan them once with viskorrel_patches, and
+ * then go from patch to patch with viskorrel_next_patch, which scans one patch a call:
+ *
+ *     viskorrel_pair list = viskorrel_patches(blob, length);
+ *     size_t at = list.first, left = list.outcome == VISKORREL_ANSWERED ? list.second : 0;
+ *     for (; left > 0; left--) {
+ *         viskorrel_pair patch = viskorrel_next_patch(blob, length, at, left);
+ *         use(blob + patch.first, patch.second - patch.first);
+ *         at = patch.second;
+ *     }
+ *
+ * It is proved that the walk meets patch 0, 1, 2 and so on, each as viskorrel_patch has it.
+ */
+
+/*
+ * Where patch n stands in its blob: from byte first up to byte second, which is no more part of it. Nothing: there is no patch n.
+ * Lent: the blob. Changed: nothing. Refusals: 9 and 10.
  */
 viskorrel_pair viskorrel_patch(const uint8_t *blob, size_t length, uint64_t n);
+
+/*
+ * The patches of a blob: first is where patch 0 starts, second how many there are.
+ * Lent: the blob. Changed: nothing. Refusals: 9 and 10.
+ */
+viskorrel_pair viskorrel_patches(const uint8_t *blob, size_t length);
+
+/*
+ * Where the next patch stands, as viskorrel_patch tells it. at is where it starts, left how many there are from it on: what viskorrel_patches
+ * gives, and after a patch its end and one less. Nothing: left is 0. Any other at and left may be passed too; of a surface that is no
+ * triangle, what stands at byte at is then scanned as a patch.
+ * Lent: the blob. Changed: nothing. Refusals: 9 and 10, from that patch.
+ */
+viskorrel_pair viskorrel_next_patch(const uint8_t *blob, size_t length, size_t at, size_t left);
 
 #ifdef __cplusplus
 }

@@ -92,6 +92,16 @@ pub fn patch(blob: &[u8], n: u64) -> Pair {
     unsafe { sys::viskorrel_patch(blob.as_ptr(), blob.len(), n) }
 }
 
+pub fn patches(blob: &[u8]) -> Pair {
+    // SAFETY: pointer and length are those of one live slice; see the head of this module.
+    unsafe { sys::viskorrel_patches(blob.as_ptr(), blob.len()) }
+}
+
+pub fn next_patch(blob: &[u8], at: usize, left: usize) -> Pair {
+    // SAFETY: pointer and length are those of one live slice; see the head of this module.
+    unsafe { sys::viskorrel_next_patch(blob.as_ptr(), blob.len(), at, left) }
+}
+
 pub fn line_interpolate_point(blob: &[u8], fraction: f64, workspace: &mut Workspace, output: &mut [u8]) -> Reply {
     let Workspace { floats, table } = workspace;
     // SAFETY: every pointer and length are those of one live slice; see the head of this module.

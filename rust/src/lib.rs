@@ -51,7 +51,7 @@ pub enum Patch<'a> {
     Part(&'a [u8]),
     /// The surface has no patch of that number.
     Nothing,
-    /// The blob is no polyhedral surface, TIN or triangle, or what stands before its geometry's content is at fault.
+    /// The blob is no polyhedral surface, TIN or triangle, or its GeoPackage header, first byte order or type is at fault.
     NoSurface,
 }
 
@@ -61,7 +61,8 @@ pub fn sizes(blob: &[u8]) -> Result<Sizes, Refusal> {
     pair.answered().map(|_| Sizes { floats: pair.first, table: pair.second })
 }
 
-/// Patch `n` of a surface, counted from 0. A triangle is its own patch 0, to the blob's end. Refusals: 9 and 10, from any patch.
+/// Patch `n` of a surface, counted from 0. A triangle is its own patch 0, to the blob's end. Every patch is scanned: [`patches`] scans each
+/// once. Refusals: 9 and 10, from the surface's SRID or count, or any patch.
 pub fn patch(blob: &[u8], n: u64) -> Result<Patch<'_>, Refusal> {
     let pair = c::patch(blob, n);
     Ok(match pair.answered()? {
@@ -70,6 +71,39 @@ pub fn patch(blob: &[u8], n: u64) -> Result<Patch<'_>, Refusal> {
         false => Patch::Nothing,
     })
 }
+
+/// The patches of a surface in order, or none where the blob is no surface, as for [`Patch::NoSurface`]. All are scanned first, and each
+/// once more when it is taken. Refusals: 9 and 10, from the surface's SRID or count, or any patch.
+pub fn patches(blob: &[u8]) -> Result<Option<Patches<'_>>, Refusal> {
+    let pair = c::patches(blob);
+    Ok(pair.answered()?.then_some(Patches { blob, at: pair.first, left: pair.second }))
+}
+
+/// The patches of a surface that are left, each a part of the blob.
+#[derive(Clone, Debug)]
+pub struct Patches<'a> {
+    blob: &'a [u8],
+    at: usize,
+    left: usize,
+}
+
+impl<'a> Iterator for Patches<'a> {
+    type Item = &'a [u8];
+
+    fn next(&mut self) -> Option<&'a [u8]> {
+        let pair = c::next_patch(self.blob, self.at, self.left);
+        // no patch of a list is refused: all were scanned
+        pair.answered().ok().filter(|&there| there)?;
+        (self.at, self.left) = (pair.second, self.left - 1);
+        Some(&self.blob[pair.first..pair.second])
+    }
+
+    fn size_hint(&self) -> (usize, Option<usize>) {
+        (self.left, Some(self.left))
+    }
+}
+
+impl ExactSizeIterator for Patches<'_> {}
 
 thread_local! {
     static MEASURER: RefCell<Measurer> = RefCell::new(Measurer::new());

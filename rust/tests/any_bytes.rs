@@ -46,6 +46,21 @@ fn fits(refusal: Refusal, side: u32) {
     assert_eq!(refusal.side, side, "{refusal}");
 }
 
+/// The patches in order are those by number, and no others.
+fn patches_agree(blob: &[u8]) {
+    match patches(blob) {
+        Ok(Some(all)) => {
+            let count = all.len() as u64;
+            for (n, part) in (0..count).zip(all) {
+                assert_eq!(patch(blob, n), Ok(Patch::Part(part)));
+            }
+            assert_eq!(patch(blob, count), Ok(Patch::Nothing));
+        }
+        Ok(None) => assert_eq!(patch(blob, 0), Ok(Patch::NoSurface)),
+        Err(refusal) => assert_eq!(patch(blob, 0), Err(refusal)),
+    }
+}
+
 #[test]
 fn every_truncation() {
     let mut measurer = Measurer::new();
@@ -68,6 +83,7 @@ fn every_truncation() {
                     Err(refusal) => assert!([9, 10].contains(&refusal.number), "{refusal}"),
                 }
             }
+            patches_agree(&cut);
         }
     }
 }
@@ -83,7 +99,8 @@ fn every_damaged_byte() {
                 damaged[place] = value;
                 said(&mut measurer, &damaged, &whole);
                 said(&mut measurer, &whole, &damaged);
-                let _ = (sizes(&damaged), patch(&damaged, 0), patch(&damaged, 1));
+                let _ = sizes(&damaged);
+                patches_agree(&damaged);
             }
         }
     }

@@ -136,7 +136,7 @@ fn sizes_of_blobs() {
 }
 
 #[test]
-fn patches() {
+fn patches_by_number() {
     let (one, two) = (polygon(&[&[O; 4]]), polygon(&[&[[1.0; 3]; 5], &[[2.0; 3]; 4]]));
     for kind in [15, 16] {
         let surface = gp(4326, collection(kind, &[one.clone(), two.clone()]));
@@ -152,5 +152,28 @@ fn patches() {
     assert_eq!(patch(&alone, 1), Ok(Patch::Nothing));
     for other in [one, point(O), vec![], b"GP".to_vec()] {
         assert_eq!(patch(&other, 0), Ok(Patch::NoSurface));
+        assert!(patches(&other).unwrap().is_none());
     }
+    // a fault after the type is refused, also before any patch: the SRID cut, then the count
+    for cut in [&[1, 15, 0, 0, 0x20, 9][..], &[1, 15, 0, 0, 0, 1, 0, 0]] {
+        assert_eq!(patch(cut, 0), Err(Refusal { number: 9, side: 1 }));
+        assert_eq!(patches(cut).unwrap_err(), Refusal { number: 9, side: 1 });
+    }
+}
+
+#[test]
+fn patches_in_order() {
+    let (one, two) = (polygon(&[&[O; 4]]), polygon(&[&[[1.0; 3]; 5], &[[2.0; 3]; 4]]));
+    let surface = gp(4326, collection(15, &[one.clone(), two.clone(), one.clone()]));
+    let all = patches(&[surface.clone(), vec![7]].concat()).unwrap().map(|all| all.map(<[u8]>::to_vec).collect());
+    assert_eq!(all, Some(vec![one.clone(), two, one.clone()]));
+    assert_eq!(patches(&surface[..surface.len() - 1]).unwrap_err(), Refusal { number: 9, side: 1 });
+    assert_eq!(patches(&collection(16, &[])).unwrap().unwrap().len(), 0);
+    let alone = [triangle(&[O; 4]), vec![9, 9]].concat();
+    assert_eq!(patches(&alone).unwrap().unwrap().collect::<Vec<_>>(), [&alone[..]]);
+    // 20,000 patches: one scan of all, then one patch a step
+    let large = collection(15, &vec![one.clone(); 20_000]);
+    let mut all = patches(&large).unwrap().unwrap();
+    assert_eq!(all.len(), 20_000);
+    assert!(all.all(|patch| patch == one));
 }

@@ -1,5 +1,8 @@
 // Replays the records of data/, calls with the answers that are expected of them, and prints for each file how many
-// records it has and how many of them differ, after a line for each that does. data/README.md gives a record's layout.
+// records it has and how many of them differ, after a line for each that does; then how many patches the cursor lists
+// of the surfaces in it, and how many of these differ from the patches by number. data/README.md gives a record's layout.
+mod patches;
+
 use blob::Sizes;
 use blob::blob_sizes;
 use ieee754::from_pattern;
@@ -9,6 +12,9 @@ use interpolation::st_3d_line_interpolate_point;
 use outcomes::Answer;
 use outcomes::Decision;
 use outcomes::Written;
+use patches::Listing;
+use patches::list;
+use patches::reply_by_cursor;
 use refusals::Refusal;
 use surface::PatchRange;
 use surface::patch_range;
@@ -62,6 +68,9 @@ const NUMBER: usize = 14;
 
 const SIDE: usize = 15;
 
+// The operation that asks for a patch.
+const PATCH: u32 = 9;
+
 // Where its 64-bit numbers start, and where its bytes do.
 const ARGUMENT: usize = 64;
 
@@ -106,6 +115,7 @@ struct Layout {
 struct Replayed {
     same: bool,
     next: usize,
+    listing: Listing,
 }
 
 // The u32 at a position; 0 past the end.
@@ -297,7 +307,7 @@ fn call(
     let operation = word(r, OPERATION);
     match operation {
         8 => reply_of_interpolated(st_3d_line_interpolate_point(a, x, floats1, table1, output)),
-        9 => reply_of_patch(patch_range(a, argument)),
+        PATCH => reply_of_patch(patch_range(a, argument)),
         10 => reply_of_sizes(blob_sizes(a)),
         _ => call_two(operation, a, b, x, floats1, table1, floats2, table2, output),
     }
@@ -469,21 +479,54 @@ fn replay(r: &[u8]) -> bool {
     if !same_reply(r, x) {
         return false;
     }
+    if !cursor_right(r) {
+        return false;
+    }
     memory_right(r, &floats1, &table1, &floats2, &table2, &output)
 }
 
+// Does the cursor answer as the record expects, if it asks for a patch?
+fn cursor_right(r: &[u8]) -> bool {
+    if word(r, OPERATION) != PATCH {
+        return true;
+    }
+    let a = part(r, BYTES, layout_of(r).b);
+    same_reply(r, reply_by_cursor(a, u64_at(r, ARGUMENT)))
+}
+
+// The patches of the record's blobs, listed by the cursor.
+fn list_both(r: &[u8]) -> Listing
+    ensures { λ r. ⌜ (r .patches ≤ 2000000) × (r .differing ≤ 2000000) ⌝ }
+{
+    let p = layout_of(r);
+    let a = list(part(r, BYTES, p.b));
+    let b = list(part(r, p.b, p.output));
+    Listing {
+        patches: a.patches + b.patches,
+        differing: a.differing + b.differing,
+    }
+}
+
 // The record that a file's rest begins with. One that is cut off is the last, and differs.
-fn replay_first(s: &[u8]) -> Replayed {
+fn replay_first(s: &[u8]) -> Replayed
+    ensures { λ r. ⌜ (r .listing .patches ≤ 2000000) × (r .listing .differing ≤ 2000000) ⌝ }
+{
     let end = layout_of(s).end;
     if s.len() < end {
         return Replayed {
             same: false,
             next: s.len(),
+            listing: Listing {
+                patches: 0,
+                differing: 0,
+            },
         };
     }
+    let r = part(s, 0, end);
     Replayed {
-        same: replay(part(s, 0, end)),
+        same: replay(r),
         next: end,
+        listing: list_both(r),
     }
 }
 
@@ -501,12 +544,16 @@ fn report(name: &[u8], record: u64, same: bool) -> u64
     1
 }
 
-fn summary(name: &[u8], records: u64, differing: u64) {
+fn summary(name: &[u8], records: u64, differing: u64, listing: Listing) {
     io::write_all(1, name);
     io::write_all(1, b": ");
     io::print_decimal(1, records);
     io::write_all(1, b" records, ");
     io::print_decimal(1, differing);
+    io::write_all(1, b" differing; ");
+    io::print_decimal(1, listing.patches);
+    io::write_all(1, b" patches by the cursor, ");
+    io::print_decimal(1, listing.differing);
     io::write_all(1, b" differing\n");
 }
 
@@ -515,13 +562,21 @@ fn run(name: &[u8], s: &[u8]) {
     let mut at: usize = 0;
     let mut records: u64 = 0;
     let mut differing: u64 = 0;
+    let mut patches: u64 = 0;
+    let mut patches_differing: u64 = 0;
     while records < 1000000 && at < s.len() {
         let x = replay_first(part(s, at, s.len()));
         differing += report(name, records, x.same);
+        patches += x.listing.patches;
+        patches_differing += x.listing.differing;
         at = next(s, at, x.next);
         records += 1;
     }
-    summary(name, records, differing);
+    let listing = Listing {
+        patches,
+        differing: patches_differing,
+    };
+    summary(name, records, differing, listing);
 }
 
 // A position further on, no farther than the end.

@@ -1,9 +1,9 @@
 pub mod Scans
 pub mod InRow
 pub mod SurfaceKinds
-pub mod Bytes
 pub mod Bounds
 pub mod Refusing
 pub mod Listing
 pub mod Answers
 pub mod Examples
+pub mod Walks

@@ -1,116 +1,136 @@
--- Patches one after the other: going on from where the first starts, each next patch is patch 0, 1, 2 and so on, and none after the last. Assumes nothing.
-use mathlib.Core.Path.{_≡_, refl, sym, ap, _∙_}
+-- Patches one after the other: a list starts before patch 0; where a position stands before patch n, the next patch from there on is patch n, and its end stands before the one after it. Assumes nothing.
+use mathlib.Core.Path.{_≡_, refl, sym, ap, _∙_, subst}
+use mathlib.Core.Bool.{Bool, true, false, cond}
 use mathlib.Core.List.{List, [], _∷_}
-use mathlib.Core.Bool.{Bool, true, false}
-use Prim.Native.Nat.{ℕ, zero, suc, _-_, _<_}
+use mathlib.Core.Option.{Option, none, some}
+use Prim.Native.Nat.{ℕ, zero, suc, _+_, _-_}
+use native.Mathlib.Numerals.{add-one, sub-one}
 use native.Mathlib.Omega.{arith}
-use lib.ListN.{length}
+use lib.ListN.{length, drop, getElem?}
 use lib.Dec.{ltb}
-use borrow.Author.Tests.{ltb-true, ltb-false, eq-eqb, ne-eqb}
-use Rattle.coords.specs.Walk.{Parsed, ok, refused, consParsed, andThen, times, headerAt}
-use Rattle.surface.specs.Patches.{Range, patchAt, patchesFrom, surfaceKind, surfaceByKind, surfaceOf, Patch, part, nothing, noSurface, refusing, patchThere, patchIn, patchOfSurface, patchOf, firstStart, listIn, listOfSurface, listOf, patchScanned, nextByKind, nextOf}
-use Rattle.surface.specs.Inner.{endOf, countFrom}
-use Rattle.surface.specs.declared.Scanned.{Scanned}
-use Rattle.surface.specs.declared.Scanned.the-variants as scanned
+use borrow.Author.Tests.{ne-eqb}
+use Rattle.fields.specs.Fields.{u32At}
+use Rattle.coords.specs.Walk.{Parsed, ok, refused, consParsed, andThen, times, listAt, headerAt}
+use Rattle.coords.specs.declared.ParsedHeader.{ParsedHeader}
+use Rattle.coords.specs.declared.ParsedHeader.the-variants as header
+use Rattle.surface.specs.Patches.{Range, patchAt, patchesFrom, surfaceKind, surfaceByKind, surfaceOf, part, nothing, patchThere, patchIn, patchOfSurface, patchOf, bytesOf, firstStart, listIn, listOfSurface, listOf, patchScanned, nextByKind, nextOf, Before}
+use Rattle.surface.specs.Inner.{endOf}
 use Rattle.surface.specs.declared.SurfaceKind.{SurfaceKind}
 use Rattle.surface.specs.declared.SurfaceKind.the-variants as kind
-use Rattle.surface.specs.declared.PatchCount.{PatchCount}
-use Rattle.surface.specs.declared.PatchCount.the-variants as patch-count
 use Rattle.surface.specs.declared.PatchList.the-variants as patch-list
-use Rattle.surface.proofs.InRow.{patch-ends, patch-starts, past-nothing, list-scanned, list-refused, collection-refused, collection-counted, only-first, only-nothing}
-
--- where a part ends
-unfoldable pub partEnd : Patch → ℕ
-partEnd (part start end) = end
-partEnd nothing = 0
-partEnd noSurface = 0
-partEnd (refusing k side) = 0
-
--- the position after n patches, each the next from the one before on
-unfoldable pub positionOf : List ℕ → ℕ → ℕ → ℕ
-positionOf s first zero = first
-positionOf s first (suc n) = partEnd (nextOf s (positionOf s first n) 1)
+use Rattle.surface.proofs.InRow.{patch-ends, patch-starts}
 
 module _ (s : List ℕ) where
-  after-first : (n first : ℕ) → positionOf s first (suc n) ≡ positionOf s (partEnd (nextOf s first 1)) n
-  unfolding positionOf
-  after-first zero first = refl
-  after-first (suc n) first = ap (λ (p : ℕ). partEnd (nextOf s p 1)) (after-first n first)
+  -- patches in a row: each starts where the one before it ends, and is the next from there on
+  Row : List Range → ℕ → ℕ → Type 0
+  Row [] at end = at ≡ end
+  Row (r ∷ rs) at end = (r .start ≡ at) × ((left : ℕ) → nextOf s at (suc left) ≡ part (r .start) (r .end)) × Row rs (r .end) end
+
+  -- of patches that were scanned
+  Rowed : ℕ → Parsed (List Range) → Type 0
+  Rowed at (ok rs end) = Row rs at end
+  Rowed at (refused k) = Unit
+
+  FromFirst : Parsed (List Range) → Type 0
+  FromFirst (ok rs end) = Row rs (firstStart rs end) end
+  FromFirst (refused k) = Unit
+
+  row-first : (rs : List Range) (at end : ℕ) → Row rs at end → firstStart rs end ≡ at
+  unfolding Row firstStart
+  row-first [] at end h = sym h
+  row-first (r ∷ rs) at end h = h .0
+
+  from-first : (at : ℕ) (w : Parsed (List Range)) → Rowed at w → FromFirst w
+  unfolding Rowed FromFirst
+  from-first at (ok rs end) h = rw (row-first rs at end h) h
+  from-first at (refused k) h = tt
 
   module _ (start : ℕ) (is : surfaceKind s ≡ kind.Collection start) where
-    next-scanned : (at left : ℕ) → (left ≡ 0 → ⊥) → nextOf s at left ≡ patchScanned (patchAt s at)
+    next-scanned : (at left : ℕ) → nextOf s at (suc left) ≡ patchScanned (patchAt s at)
     unfolding nextOf nextByKind
-    next-scanned at left h = simp (ne-eqb left 0 h, is)
+    next-scanned at left = simp (ne-eqb (suc left) 0 (λ z. omega (arith, z)), is)
 
-    next-end : (at : ℕ) (r : Range) (e : ℕ) → patchAt s at ≡ ok r e → partEnd (nextOf s at 1) ≡ e
-    unfolding patchScanned partEnd endOf
-    next-end at r e p = ap partEnd (next-scanned at 1 (λ z. omega (arith, z)) ∙ ap patchScanned (patch-ends s at e (ap endOf p)))
-
-    -- one of the patches in a row
-    row : (count n at e : ℕ) → n < count → endOf (times _∷_ [] (patchAt s) count at) ≡ scanned.Ends e → patchIn n (times _∷_ [] (patchAt s) count at) ≡ patchScanned (patchAt s (positionOf s at n))
-    unfolding times endOf patchIn patchThere patchScanned positionOf
-    row zero n at e h p = absurd (omega arith)
-    row (suc c) zero at e h p = go (patchAt s at) p
+    times-rowed : (n at : ℕ) → Rowed at (times _∷_ [] (patchAt s) n at)
+    unfolding times Row Rowed patchScanned endOf
+    times-rowed zero at = refl
+    times-rowed (suc n) at = go (times-rowed n) (patchAt s at) refl
       where
-        one : (r : Range) (w : Parsed (List Range)) → endOf (consParsed _∷_ r w) ≡ scanned.Ends e → patchIn 0 (consParsed _∷_ r w) ≡ part (r .start) (r .end)
-        one r (ok rs end) q = refl
-        one r (refused k) q = let z : _≡_ {A = ℕ} 0 1 = cc in absurd (omega arith)
+        join : (r : Range) → (r .start ≡ at) → ((left : ℕ) → nextOf s at (suc left) ≡ part (r .start) (r .end)) → (w : Parsed (List Range)) → Rowed (r .end) w → Rowed at (consParsed _∷_ r w)
+        join r e f (ok rs end) j = (e, f, j)
+        join r e f (refused k) j = tt
 
-        go : (w : Parsed Range) → endOf (andThen _∷_ w (times _∷_ [] (patchAt s) c)) ≡ scanned.Ends e → patchIn 0 (andThen _∷_ w (times _∷_ [] (patchAt s) c)) ≡ patchScanned w
-        go (ok r next) q = one r (times _∷_ [] (patchAt s) c next) q
-        go (refused k) q = let z : _≡_ {A = ℕ} 0 1 = cc in absurd (omega arith)
-    row (suc c) (suc n) at e h p = go (λ next. row c n next e (omega arith)) (patchAt s at) refl p
+        go : ((next : ℕ) → Rowed next (times _∷_ [] (patchAt s) n next)) → (w : Parsed Range) → patchAt s at ≡ w → Rowed at (andThen _∷_ w (times _∷_ [] (patchAt s) n))
+        go rest (refused k) e = tt
+        go rest (ok r next) e =
+            let same : r .end ≡ next = cc (patch-ends s at next (ap endOf e)) in
+            join r (patch-starts s at r next e) (λ left. next-scanned at left ∙ ap patchScanned e) (times _∷_ [] (patchAt s) n next) (rw same (rest next))
+
+    collection-rowed : (h : ParsedHeader) → FromFirst (patchesFrom s h)
+    unfolding patchesFrom listAt FromFirst
+    collection-rowed (header.Refused k) = tt
+    collection-rowed (header.Read h) = go (ltb (length s) (h .body + 4))
       where
-        on : (r : Range) (next : ℕ) (w : Parsed (List Range)) → (endOf w ≡ scanned.Ends e → patchIn n w ≡ patchScanned (patchAt s (positionOf s next n))) → endOf (consParsed _∷_ r w) ≡ scanned.Ends e → patchIn (suc n) (consParsed _∷_ r w) ≡ patchScanned (patchAt s (positionOf s next n))
-        on r next (ok rs end) rest q = rest q
-        on r next (refused k) rest q = let z : _≡_ {A = ℕ} 0 1 = cc in absurd (omega arith)
+        go : (b : Bool) → FromFirst (cond b (refused 9) (times _∷_ [] (patchAt s) (u32At (h .little) s (h .body)) (h .body + 4)))
+        go true = tt
+        go false = from-first (h .body + 4) _ (times-rowed (u32At (h .little) s (h .body)) (h .body + 4))
 
-        go : ((next : ℕ) → endOf (times _∷_ [] (patchAt s) c next) ≡ scanned.Ends e → patchIn n (times _∷_ [] (patchAt s) c next) ≡ patchScanned (patchAt s (positionOf s next n))) → (w : Parsed Range) → patchAt s at ≡ w → endOf (andThen _∷_ w (times _∷_ [] (patchAt s) c)) ≡ scanned.Ends e → patchIn (suc n) (andThen _∷_ w (times _∷_ [] (patchAt s) c)) ≡ patchScanned (patchAt s (positionOf s at (suc n)))
-        go rest (ok r next) f q =
-            on r next (times _∷_ [] (patchAt s) c next) (rest next) q
-            ∙ ap (λ (x : ℕ). patchScanned (patchAt s x)) (sym (after-first n at ∙ ap (λ (x : ℕ). positionOf s x n) (next-end at r next f)))
-        go rest (refused k) f q = let z : _≡_ {A = ℕ} 0 1 = cc in absurd (omega arith)
-
-    row-lists : (count n at e : ℕ) → endOf (times _∷_ [] (patchAt s) count at) ≡ scanned.Ends e → nextOf s (positionOf s at n) (count - n) ≡ patchIn n (times _∷_ [] (patchAt s) count at)
-    unfolding nextOf
-    row-lists count n at e p = go (ltb n count) refl
-      where
-        go : (b : Bool) → ltb n count ≡ b → nextOf s (positionOf s at n) (count - n) ≡ patchIn n (times _∷_ [] (patchAt s) count at)
-        go true q = next-scanned (positionOf s at n) (count - n) (λ z. omega (arith, z, ltb-true n count q)) ∙ sym (row count n at e (ltb-true n count q) p)
-        go false q = simp (eq-eqb (count - n) 0 (omega (arith, ltb-false n count q))) (sym (past-nothing (patchAt s) count n at e (ltb-false n count q) p))
-
-    collection-lists : (first count n : ℕ) → listIn (patchesFrom s (headerAt s start)) ≡ patch-list.Listed first count → nextOf s (positionOf s first n) (count - n) ≡ patchIn n (patchesFrom s (headerAt s start))
-    unfolding listIn
-    collection-lists first count n h = go (countFrom s (headerAt s start)) refl
-      where
-        scan : (a c : ℕ) → patchesFrom s (headerAt s start) ≡ times _∷_ [] (patchAt s) c a → (o : Scanned) → endOf (times _∷_ [] (patchAt s) c a) ≡ o → nextOf s (positionOf s first n) (count - n) ≡ patchIn n (patchesFrom s (headerAt s start))
-        scan a c e (scanned.Refused k) q =
-            let l : patch-list.Listed first count ≡ patch-list.Refused (record { number = k; side = 1 }) = sym h ∙ (ap listIn e ∙ list-refused (patchAt s) c a k q) in
-            let z : _≡_ {A = ℕ} 0 1 = cc in absurd (omega arith)
-        scan a c e (scanned.Ends last) q =
-            let l : patch-list.Listed a c ≡ patch-list.Listed first count = sym (list-scanned (patchAt s) (patch-starts s) c a last q) ∙ (sym (ap listIn e) ∙ h) in
-            let ea : a ≡ first = cc in
-            let ec : c ≡ count = cc in
-            rw (← ea, ← ec) (row-lists c n a last q ∙ sym (ap (patchIn n) e))
-
-        go : (o : PatchCount) → countFrom s (headerAt s start) ≡ o → nextOf s (positionOf s first n) (count - n) ≡ patchIn n (patchesFrom s (headerAt s start))
-        go (patch-count.Refused k) e =
-            let l : patch-list.Listed first count ≡ patch-list.Refused (record { number = k; side = 1 }) = sym h ∙ ap listIn (collection-refused s (headerAt s start) k e) in
-            let z : _≡_ {A = ℕ} 0 1 = cc in absurd (omega arith)
-        go (patch-count.Counted a c) e = scan a c (collection-counted s (headerAt s start) a c e) (endOf (times _∷_ [] (patchAt s) c a)) refl
-
-  triangle-lists : (start : ℕ) → surfaceKind s ≡ kind.Triangle start → (at n : ℕ) → nextOf s at (1 - n) ≡ patchIn n (ok (record { start = start; end = length s } ∷ []) (length s))
-  unfolding nextOf nextByKind
-  triangle-lists start is at zero = simp is (sym (only-first zero start (length s) (length s) refl))
-  triangle-lists start is at (suc n) = simp (eq-eqb (1 - suc n) 0 (omega arith)) (sym (only-nothing (suc n) (record { start = start; end = length s }) (length s) (λ z. omega (arith, z))))
-
-  pub next-lists-patches : (first count : ℕ) → listOf s ≡ patch-list.Listed first count → (n : ℕ) → nextOf s (positionOf s first n) (count - n) ≡ patchOf s n
-  unfolding listOf patchOf surfaceOf surfaceByKind listOfSurface patchOfSurface listIn firstStart
-  next-lists-patches first count h n = go (surfaceKind s) refl h
+  surface-rowed : (rs : List Range) (end : ℕ) → surfaceOf s ≡ some (ok rs end) → Row rs (firstStart rs end) end
+  unfolding surfaceOf surfaceByKind nextOf nextByKind Row FromFirst firstStart
+  surface-rowed rs end e = go (surfaceKind s) refl e
     where
-      go : (k : SurfaceKind) → surfaceKind s ≡ k → listOfSurface (surfaceByKind s k) ≡ patch-list.Listed first count → nextOf s (positionOf s first n) (count - n) ≡ patchOfSurface n (surfaceByKind s k)
-      go (kind.Collection start) is l = collection-lists start is first count n l
-      go (kind.Triangle start) is l =
-          let one : 1 ≡ count = cc in
-          rw (← one) (triangle-lists start is (positionOf s first n) n)
-      go kind.NoSurface is l = let z : _≡_ {A = ℕ} 0 1 = cc in absurd (omega arith)
+      go : (k : SurfaceKind) → surfaceKind s ≡ k → surfaceByKind s k ≡ some (ok rs end) → Row rs (firstStart rs end) end
+      go (kind.Collection start) is p =
+          let same : patchesFrom s (headerAt s start) ≡ ok rs end = cc in
+          subst FromFirst same (collection-rowed start is (headerAt s start))
+      go (kind.Triangle start) is p =
+          let one : record { start = start; end = length s } ∷ [] ≡ rs = cc in
+          let last : length s ≡ end = cc in
+          rw (← one, ← last) (refl, (λ left. simp (ne-eqb (suc left) 0 (λ z. omega (arith, z)), is)), refl)
+      go kind.NoSurface is p = let z : _≡_ {A = ℕ} 0 1 = cc in absurd (omega arith)
+
+  row-drop : (n : ℕ) (rs : List Range) (at end : ℕ) → Row rs at end → Row (drop n rs) (firstStart (drop n rs) end) end
+  unfolding Row firstStart
+  row-drop zero rs at end h = rw (row-first rs at end h) h
+  row-drop (suc n) [] at end h = refl
+  row-drop (suc n) (r ∷ rs) at end h = row-drop n rs (r .end) end (h .2)
+
+  -- the next from where patch n starts is patch n
+  nth-next : (rs : List Range) (n at left end : ℕ) → Row (drop n rs) at end → left ≡ length (drop n rs) → nextOf s at left ≡ patchThere (getElem? rs n)
+  unfolding Row nextOf patchThere
+  nth-next [] zero at left end h e = rw e refl
+  nth-next [] (suc n) at left end h e = rw e refl
+  nth-next (r ∷ rs) zero at left end h e = rw e (h .1 (length rs))
+  nth-next (r ∷ rs) (suc n) at left end h e = nth-next rs n at left end h e
+
+  -- where patch n ends the one after it starts, and one less is left
+  nth-after : (rs : List Range) (n at end start e : ℕ) → Row (drop n rs) at end → patchThere (getElem? rs n) ≡ part start e → (e ≡ firstStart (drop (suc n) rs) end) × (length (drop n rs) - 1 ≡ length (drop (suc n) rs))
+  unfolding Row patchThere
+  nth-after [] zero at end start e h p = let z : _≡_ {A = ℕ} 0 1 = cc in absurd (omega arith)
+  nth-after [] (suc n) at end start e h p = let z : _≡_ {A = ℕ} 0 1 = cc in absurd (omega arith)
+  nth-after (r ∷ rs) zero at end start e h p = let ends : r .end ≡ e = cc in (cc (row-first rs (r .end) end (h .2)), sub-one (suc (length rs)))
+  nth-after (r ∷ rs) (suc n) at end start e h p = nth-after rs n at end start e h p
+
+  -- a list stands before patch 0
+  pub stands-first : (first count : ℕ) → listOf s ≡ patch-list.Listed first count → Before s first count 0
+  unfolding listOf listOfSurface listIn
+  stands-first first count = go (surfaceOf s) refl
+    where
+      go : (o : Option (Parsed (List Range))) → surfaceOf s ≡ o → listOfSurface o ≡ patch-list.Listed first count → Before s first count 0
+      go none e l = let z : _≡_ {A = ℕ} 0 1 = cc in absurd (omega arith)
+      go (some (refused k)) e l = let z : _≡_ {A = ℕ} 0 1 = cc in absurd (omega arith)
+      go (some (ok rs end)) e l = record { ranges = rs; end = end; scanned = e; starts = cc; counted = cc }
+
+  -- the next patch from a position before patch n on is patch n
+  pub next-is-patch : (at left n : ℕ) → Before s at left n → nextOf s at left ≡ patchOf s n
+  unfolding patchOf patchOfSurface patchIn
+  next-is-patch at left n b =
+      let row : Row (drop n (b .ranges)) (firstStart (drop n (b .ranges)) (b .end)) (b .end) = row-drop n (b .ranges) _ (b .end) (surface-rowed (b .ranges) (b .end) (b .scanned)) in
+      rw (b .scanned) (nth-next (b .ranges) n at left (b .end) (rw (b .starts) row) (b .counted))
+
+  -- the end of patch n stands before the patch after it
+  pub stands-after : (at left n start end : ℕ) → Before s at left n → patchOf s n ≡ part start end → Before s end (left - 1) (n + 1)
+  unfolding patchOf patchOfSurface patchIn
+  stands-after at left n start end b p =
+      let row : Row (drop n (b .ranges)) (firstStart (drop n (b .ranges)) (b .end)) (b .end) = row-drop n (b .ranges) _ (b .end) (surface-rowed (b .ranges) (b .end) (b .scanned)) in
+      let next : (end ≡ firstStart (drop (suc n) (b .ranges)) (b .end)) × (length (drop n (b .ranges)) - 1 ≡ length (drop (suc n) (b .ranges))) = nth-after (b .ranges) n _ (b .end) start end row (rw (b .scanned) at p) in
+      record { ranges = b .ranges; end = b .end; scanned = b .scanned; starts = rw add-one (next .0); counted = rw (add-one, b .counted) (next .1) }

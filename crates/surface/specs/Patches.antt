@@ -1,5 +1,6 @@
 -- The patches of a surface (document 01, Patches; `surfaces` of the Rust): where each stands in the blob, and what is answered for patch n. Definitions only.
 use Prim.Native.Nat.{ℕ, _-_}
+use mathlib.Core.Path.{_≡_}
 use mathlib.Core.List.{List, [], _∷_}
 use mathlib.Core.Bool.{cond, _||_}
 use mathlib.Core.Option.{Option, none, some}
@@ -153,3 +154,11 @@ nextByKind s at kind.NoSurface = noSurface
 -- the next patch from a position on, with so many left: none where none is left
 unfoldable pub nextOf : List ℕ → ℕ → ℕ → Patch
 nextOf s at left = cond (eqb left 0) nothing (nextByKind s at (surfaceKind s))
+
+-- a position, with so many patches left from it on, stands before patch n of a surface whose patches were all scanned: patch n starts there; past the last, the patches end there
+pub record Before (s : List ℕ) (at left n : ℕ) : Type 0 where
+  pub ranges : List Range
+  pub end : ℕ
+  pub scanned : surfaceOf s ≡ some (ok ranges end)
+  pub starts : at ≡ firstStart (drop n ranges) end
+  pub counted : left ≡ length (drop n ranges)

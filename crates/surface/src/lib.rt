@@ -5,11 +5,12 @@ use gpb::Header;
 use refusals::Refusal;
 ghost use mathlib.Core.Path.{_≡_};
 ghost use mathlib.Core.List.{[], _∷_};
-ghost use Prim.Native.Nat.{_-_};
+ghost use Prim.Native.Nat.{ℕ, _+_, _-_};
 ghost use Rattle.coords.specs.Walk.{headerAt, times};
-ghost use Rattle.surface.specs.Patches.{patchAt, patchesFrom, surfaceKind, patchValue, refusing, patchIn, patchOf, bytesBetween, bytesOf, listIn, listOf, nextOf};
+ghost use Rattle.surface.specs.Patches.{patchAt, patchesFrom, surfaceKind, patchValue, refusing, part, patchIn, patchOf, bytesOf, listIn, listOf, nextOf, Before};
 ghost use Rattle.surface.specs.Inner.{endOf, countFrom};
 ghost use Rattle.surface.specs.declared.PatchRange.the-variants.{Part};
+ghost use Rattle.surface.specs.declared.PatchList.the-variants.{Listed};
 ghost use lib.ListN.{length};
 
 // The part of the blob from a start up to an end; none; no surface; or the refusal.
@@ -213,7 +214,7 @@ pub fn patch_list(s: &[u8]) -> PatchList
 }
 
 // Where the next patch from a position on stands, with so many left.
-pub fn next_range(s: &[u8], at: usize, left: u64) -> PatchRange
+fn next_range(s: &[u8], at: usize, left: u64) -> PatchRange
     ensures { λ r. ⌜ patchValue r ≡ nextOf (now (s .entry)) at left ⌝ }
 {
     if left == 0 {
@@ -229,27 +230,23 @@ pub fn next_range(s: &[u8], at: usize, left: u64) -> PatchRange
     }
 }
 
-// The bytes of a blob from a start up to an end, or to the blob's end if that comes first.
-fn bytes_between(s: &[u8], start: usize, end: usize) -> &[u8]
-    ensures { λ r. ⌜ now r ≡ bytesBetween (now (s .entry)) start end ⌝ }
+// The bytes of that patch, as a part of the blob; empty where there is none.
+fn next_bytes(s: &[u8], at: usize, left: u64) -> &[u8]
+    ensures { λ r. ⌜ now r ≡ bytesOf (now (s .entry)) (nextOf (now (s .entry)) at left) ⌝ }
 {
-    if s.len() < start {
-        return &s[..0];
+    match next_range(s, at, left) {
+        PatchRange::Part { start, end } => &s[start..end],
+        PatchRange::Nothing => &s[..0],
+        PatchRange::NoSurface => &s[..0],
+        PatchRange::Refused(refusal) => &s[..0],
     }
-    if s.len() < end {
-        return &s[start..];
-    }
-    if end < start {
-        return &s[..0];
-    }
-    &s[start..end]
 }
 
 // One less, down to 0.
-fn one_less(left: u64) -> u64
-    ensures { λ r. ⌜ r ≡ left - 1 ⌝ }
+fn one_less(count: u64) -> u64
+    ensures { λ r. ⌜ r ≡ count - 1 ⌝ }
 {
-    if left == 0 { 0 } else { left - 1 }
+    if count == 0 { 0 } else { count - 1 }
 }
 
 // A surface's blob, where its next patch starts, and how many are left from there on.
@@ -259,31 +256,37 @@ pub struct Cursor<'a> {
     pub left: u64,
 }
 
+// From the start and the count of `patch_list` on, `patch` hands back patch 0, and after the end that `next` tells
+// patch 1, and so on: each step scans one patch.
 impl<'a> Cursor<'a> {
-    // The cursor before a patch.
+    // The cursor at a position; at a list's start, before patch 0.
     pub fn new(blob: &'a [u8], at: usize, left: u64) -> Cursor<'a>
-        ensures { λ r. ⌜ (r .blob ≡ blob .entry) × (r .at ≡ at) × (r .left ≡ left) ⌝ }
+        ensures made { λ r. ⌜ (r .blob ≡ blob .entry) × (r .at ≡ at) × (r .left ≡ left) ⌝ }
+        ensures first { λ r. ⌜ (listOf (now (blob .entry)) ≡ Listed at left → Before (now (r .blob)) (r .at) (r .left) 0) ⌝ }
     {
         Cursor { blob, at, left }
     }
 
-    // Where the next patch stands.
+    // Where the next patch stands: patch n, before which the cursor stands.
     pub fn next(self) -> PatchRange
-        ensures { λ r. ⌜ patchValue r ≡ nextOf (now (self .entry .blob)) (self .entry .at) (self .entry .left) ⌝ }
+        ensures next { λ r. ⌜ patchValue r ≡ nextOf (now (self .entry .blob)) (self .entry .at) (self .entry .left) ⌝ }
+        ensures patch_n { λ r. ⌜ ((n : ℕ) → Before (now (self .entry .blob)) (self .entry .at) (self .entry .left) n → patchValue r ≡ patchOf (now (self .entry .blob)) n) ⌝ }
     {
         next_range(self.blob, self.at, self.left)
     }
 
-    // The bytes from the position up to an end, as a part of the blob.
-    pub fn part(self, end: usize) -> &'a [u8]
-        ensures { λ r. ⌜ now r ≡ bytesBetween (now (self .entry .blob)) (self .entry .at) end ⌝ }
+    // The bytes of the next patch: of patch n, before which the cursor stands.
+    pub fn patch(self) -> &'a [u8]
+        ensures next { λ r. ⌜ now r ≡ bytesOf (now (self .entry .blob)) (nextOf (now (self .entry .blob)) (self .entry .at) (self .entry .left)) ⌝ }
+        ensures patch_n { λ r. ⌜ ((n : ℕ) → Before (now (self .entry .blob)) (self .entry .at) (self .entry .left) n → now r ≡ bytesOf (now (self .entry .blob)) (patchOf (now (self .entry .blob)) n)) ⌝ }
     {
-        bytes_between(self.blob, self.at, end)
+        next_bytes(self.blob, self.at, self.left)
     }
 
-    // The cursor after a patch that ends there.
+    // The cursor after a patch that ends there: after patch n, before patch n + 1.
     pub fn after(self, end: usize) -> Cursor<'a>
-        ensures { λ r. ⌜ (r .blob ≡ self .entry .blob) × (r .at ≡ end) × (r .left ≡ self .entry .left - 1) ⌝ }
+        ensures made { λ r. ⌜ (r .blob ≡ self .entry .blob) × (r .at ≡ end) × (r .left ≡ self .entry .left - 1) ⌝ }
+        ensures one_on { λ r. ⌜ ((n start : ℕ) → Before (now (self .entry .blob)) (self .entry .at) (self .entry .left) n → patchOf (now (self .entry .blob)) n ≡ part start end → Before (now (r .blob)) (r .at) (r .left) (n + 1)) ⌝ }
     {
         let left = one_less(self.left);
         Cursor {
@@ -291,24 +294,5 @@ impl<'a> Cursor<'a> {
             at: end,
             left,
         }
-    }
-}
-
-// The part of a blob from a start up to an end: a cursor's, for callers that hold none.
-pub fn part(s: &[u8], start: usize, end: usize) -> &[u8]
-    ensures { λ r. ⌜ now r ≡ bytesBetween (now (s .entry)) start end ⌝ }
-{
-    Cursor::new(s, start, 0).part(end)
-}
-
-// The bytes of patch n of a blob, 0-based; empty where there is no such part.
-pub fn patch(s: &[u8], n: u64) -> &[u8]
-    ensures { λ r. ⌜ now r ≡ bytesOf (now (s .entry)) (patchOf (now (s .entry)) n) ⌝ }
-{
-    match patch_range(s, n) {
-        PatchRange::Part { start, end } => part(s, start, end),
-        PatchRange::Nothing => &s[..0],
-        PatchRange::NoSurface => &s[..0],
-        PatchRange::Refused(refusal) => &s[..0],
     }
 }

@@ -1,2 +1,3 @@
 -- What an export returns, from what its operation did.
 pub mod Returned
+pub mod PatchSteps

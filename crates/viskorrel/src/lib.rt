@@ -6,16 +6,20 @@ use outcomes::Answer;
 use outcomes::Decision;
 use outcomes::Written;
 use refusals::Refusal;
+use surface::Cursor;
+use surface::PatchList;
 use surface::PatchRange;
 ghost use mathlib.Core.Path.{_≡_};
 ghost use mathlib.Core.List.{[]};
+ghost use Prim.Native.Nat.{ℕ, _+_, _-_};
 ghost use Rattle.blob.specs.Blob.{sizesOf};
 ghost use Rattle.interpolation.specs.Operation.{reportOf, interpolationOutcome};
 ghost use Rattle.operands.specs.Operands.{workspaces};
-ghost use Rattle.surface.specs.Patches.{patchOf};
+ghost use Rattle.surface.specs.Patches.{patchValue, patchOf, listOf, nextOf, Before};
 ghost use Rattle.outcomes.specs.Answers.{answerReport, decisionReport, writtenReport};
 ghost use Rattle.outcomes.specs.Operations.{distance, maxDistance, within, fullyWithin, intersects, closestPoint, shortestLine, longestLine};
 ghost use Rattle.viskorrel.specs.Replies.{replyNothing, replyAnswered, replyRefused, replyOf, returned, returnedOf, interpolationReport, oneSided, pairOf, pairRefused, sizesReply, patchReply};
+ghost use Rattle.viskorrel.specs.PatchReplies.{patchesReply};
 
 // What an operation returns: a case, the number and side of a refusal, a number.
 #[repr(C)]
@@ -335,12 +339,7 @@ pub extern "C" fn viskorrel_3d_line_interpolate_point(
 pub extern "C" fn viskorrel_patch(blob: &[u8], n: u64) -> PairReply
     ensures { λ r. ⌜ r ≡ patchReply (patchOf (now (blob .entry)) n) ⌝ }
 {
-    match surface::patch_range(blob, n) {
-        PatchRange::Part { start, end } => pair(ANSWERED, start, end),
-        PatchRange::Nothing => pair(NOTHING, 0, 0),
-        PatchRange::NoSurface => pair(NO_SURFACE, 0, 0),
-        PatchRange::Refused(refusal) => pair_refused(refusal),
-    }
+    reply_to_patch(surface::patch_range(blob, n))
 }
 
 // The lengths to lend for a blob: floats, then numbers of the table.
@@ -352,4 +351,45 @@ pub extern "C" fn viskorrel_sizes(blob: &[u8]) -> PairReply
         Sizes::Lend { floats, numbers } => pair(ANSWERED, floats, numbers),
         Sizes::Refused(refusal) => pair_refused(refusal),
     }
+}
+
+// The patches of a surface: where the first starts, then how many there are.
+#[no_mangle]
+pub extern "C" fn viskorrel_patches(blob: &[u8]) -> PairReply
+    ensures { λ r. ⌜ r ≡ patchesReply (listOf (now (blob .entry))) ⌝ }
+    ensures first { λ r. ⌜ (r .case ≡ 1 → Before (now (blob .entry)) (r .first) (r .second) 0) ⌝ }
+{
+    match surface::patch_list(blob) {
+        PatchList::Listed { first, count } => pair(ANSWERED, first, count as usize),
+        PatchList::NoSurface => pair(NO_SURFACE, 0, 0),
+        PatchList::Refused(refusal) => pair_refused(refusal),
+    }
+}
+
+// The reply to a patch.
+fn reply_to_patch(range: PatchRange) -> PairReply
+    ensures { λ r. ⌜ r ≡ patchReply (patchValue range) ⌝ }
+{
+    match range {
+        PatchRange::Part { start, end } => pair(ANSWERED, start, end),
+        PatchRange::Nothing => pair(NOTHING, 0, 0),
+        PatchRange::NoSurface => pair(NO_SURFACE, 0, 0),
+        PatchRange::Refused(refusal) => pair_refused(refusal),
+    }
+}
+
+// A cursor's next patch: C has the cursor's parts, and holds none.
+fn next_of_cursor(blob: &[u8], at: usize, left: u64) -> PatchRange
+    ensures { λ r. ⌜ patchValue r ≡ nextOf (now (blob .entry)) at left ⌝ }
+{
+    Cursor::new(blob, at, left).next()
+}
+
+// Where the next patch from a position on stands, with so many left: start, then end. It alone is scanned.
+#[no_mangle]
+pub extern "C" fn viskorrel_next_patch(blob: &[u8], at: usize, left: usize) -> PairReply
+    ensures { λ r. ⌜ r ≡ patchReply (nextOf (now (blob .entry)) at left) ⌝ }
+    ensures patch_n { λ r. ⌜ ((n : ℕ) → Before (now (blob .entry)) at left n → (r ≡ patchReply (patchOf (now (blob .entry)) n)) × (r .case ≡ 1 → Before (now (blob .entry)) (r .second) (left - 1) (n + 1))) ⌝ }
+{
+    reply_to_patch(next_of_cursor(blob, at, left as u64))
 }

@@ -61,6 +61,8 @@ on_two_blobs! {
 extern "C" {
     pub fn viskorrel_sizes(blob: *const u8, length: usize) -> Pair;
     pub fn viskorrel_patch(blob: *const u8, length: usize, n: u64) -> Pair;
+    pub fn viskorrel_patches(blob: *const u8, length: usize) -> Pair;
+    pub fn viskorrel_next_patch(blob: *const u8, length: usize, at: usize, left: usize) -> Pair;
     pub fn viskorrel_3d_line_interpolate_point(
         blob: *const u8,
         length: usize,

@@ -1,14 +1,15 @@
 -- `replay::run` is safe and ends: the records that may still come fall, and no more differ than were replayed. Assumes nothing.
-use Prim.Native.Nat.{_-_, _≤_}
+use Prim.Native.Nat.{_*_, _-_, _≤_}
 use borrow.Author.Needs.{needs}
 use Rattle.replay.proofs.run.Statement.{statement}
 use Rattle.replay.proofs.run.Tie as tie
 
 abbrev Inv-loop : tie.InvT-loop
-Inv-loop name s at₀ records₀ differing₀ at records differing = differing ≤ records
+Inv-loop name s at₀ records₀ differing₀ patches₀ patches-differing₀ at records differing patches patches-differing =
+    (differing ≤ records) × (records ≤ 1000000) × (patches ≤ 2000000 * records) × (patches-differing ≤ 2000000 * records)
 
 abbrev μ-loop : tie.MeasureT-loop
-μ-loop name s at₀ records₀ differing₀ at records differing = 1000000 - records
+μ-loop name s at₀ records₀ differing₀ patches₀ patches-differing₀ at records differing patches patches-differing = 1000000 - records
 
 loop-holds : tie.Need-loop-holds Inv-loop μ-loop
 loop-holds c = search needs
@@ -24,6 +25,12 @@ report-requires c κs = search needs
 
 add-differing : tie.Need-add-differing Inv-loop μ-loop
 add-differing c = search needs
+
+add-patches : tie.Need-add-patches Inv-loop μ-loop
+add-patches c = search needs
+
+add-patches-differing : tie.Need-add-patches-differing Inv-loop μ-loop
+add-patches-differing c = search needs
 
 next-requires : tie.Need-next-requires Inv-loop μ-loop
 next-requires c κs = search needs
@@ -54,6 +61,8 @@ run-spec =
     replay-first-requires
     report-requires
     add-differing
+    add-patches
+    add-patches-differing
     next-requires
     add-records
     loop-less

@@ -26,6 +26,7 @@ use denote.RattleType.{RattleType, owns}
 use denote.Laws.{Is, shows}
 use denote.Plain.{uint-makes, uint-vals, uint-tells, uint-lawful}
 use denote.Builtin.{u64, usize}
+use denote.Ref.{now}
 use denote.Signature.{namedLft}
 use denote.Steps.{only, owned, peeks, heard, nothing}
 use denote.Struct.Declared.{Declared}
@@ -37,10 +38,12 @@ use denote.Triple.Call.{calls-at}
 use denote.Triple.Entry.{Vals, onEntry}
 use denote.Triple.Spec.{Meets, tripleOf}
 use denote.Triple.Table.{entered, cited}
-use denote.Triple.Walked.{says, Stays, stay-none, walkOf, goes-none, Walks, ends-at, walked, walk-meets}
+use denote.Triple.Walked.{Stays, stay-none, walkOf, goes-none, Walks, ends-at, walked, walk-meets}
 use denote.Exit.{yes}
 use denote.Triple.Clauses.{ensured, lasts}
 use Rattle.surface.specs.declared.Cursor.{Cursor}
+use Rattle.surface.proofs.Listing.{stands-after}
+use Rattle.surface.proofs.Walks.{says-both}
 use Rattle.surface.proofs.Cursor as T
 use Rattle.surface.proofs.Cursor.Laws as T′
 use Rattle.surface.proofs.one_less as less
@@ -104,7 +107,7 @@ module _ {M : Type 1} (𝓤 : URA M) (H : Heap 𝓤) (A : Atoms 𝓤) (W : Given
   exits : (r : ℕ) → r ≡ d .left - 1 → r < 2 ^ 64 → ent 𝓤 (onEntry 𝓤 H A after.signature (κ, tt) (q, tt) (d, (n, tt)) at) (Post (T′.lowered (d′ r)))
   exits r e fits =
       qed W ((‵ (flft κ q) ⊛ ‵ ftrue) ∷ ‵ (owns (B (κ, tt) ∷ usize ∷ []) (d, (n, tt)) at) ∷ []) ∵
-      suffices ! _ (ends-at 𝓤 H A after.ended stayed (after.clauses 𝓤 H A mem run) W (((κ, tt), (q, tt), tt, (d, (n, tt)), at), tt) (T′.lowered (d′ r)) (d′ r) (tt, (tt, tt)) (tt, (tt, tt))) $ says ! (refl, refl, e) $
+      suffices ! _ (ends-at 𝓤 H A after.ended stayed (after.clauses 𝓤 H A mem run) W (((κ, tt), (q, tt), tt, (d, (n, tt)), at), tt) (T′.lowered (d′ r)) (d′ r) (tt, (tt, tt)) (tt, (tt, tt))) $ says-both ! (refl, refl, e) (λ k start b p. rw e (stands-after (now (d .blob)) (d .at) (d .left) k start n b p)) $
       frame ! $ fsplit ! $ use1 W (‵ Own ⊛ ‵ Own) (LL.copy D (T′.the-copy (namedLft 1 0 tt (κ, tt))) 𝓤 H A W .twice d (mach ∷ [])) $ split ! $ move ! (0 ∷ 2 ∷ []) $ fjoin ! $ frame ! $
       use1 W (given (mach ∷ [] ≡ mach ∷ []) (‵ (all-own (D .parts) L vd))) (own-open 𝓤 H A W D L vd mach) $ learn ! (λ _. use1 W (‵ (ownAt (D .parts) L 0 (d .blob)) ⊛ ‵ (rest (D .parts) L 0 vd)) (own-out 𝓤 H A W (D .parts) L 0 vd) $ split ! $ move ! (1 ∷ []) $ drop ! $
       -- [what blob owns]: the new numbers' facts are put beside it

@@ -1,7 +1,7 @@
 -- `surface::Cursor::next` meets its contract: a walk of its MIR, by hand. The struct is taken apart, and `next_range` is called on the slice and the numbers. All that the proof knows of `next_range` is that it meets its contract.
 -- The struct is Copy: what it owns is had twice, one copy is kept whole for the exit, and of the other what blob owns goes to the callee, beside the lifetime's token, which comes back.
 -- Assumes nothing.
-use mathlib.Core.Path.{_≡_, refl}
+use mathlib.Core.Path.{_≡_, refl, _∙_}
 use Prim.Native.Nat.{_<_, _^_}
 use mathlib.Core.List.{[], _∷_}
 use lib.Dec.{T as Holds}
@@ -40,12 +40,14 @@ use denote.Triple.Call.{calls-at}
 use denote.Triple.Entry.{Vals, onEntry}
 use denote.Triple.Spec.{Meets, tripleOf}
 use denote.Triple.Table.{entered, cited}
-use denote.Triple.Walked.{says, Stays, stay-none, walkOf, goes-none, Walks, ends-at, walked, walk-meets}
+use denote.Triple.Walked.{Stays, stay-none, walkOf, goes-none, Walks, ends-at, walked, walk-meets}
 use denote.Exit.{yes}
 use denote.Triple.Clauses.{ensured, lasts}
 use Rattle.surface.specs.Patches.{Patch, patchValue, nextOf}
 use Rattle.surface.specs.declared.Cursor.{Cursor}
 use Rattle.surface.specs.declared.PatchRange.{PatchRange}
+use Rattle.surface.proofs.Listing.{next-is-patch}
+use Rattle.surface.proofs.Walks.{says-both}
 use Rattle.surface.proofs.Cursor as T
 use Rattle.surface.proofs.Cursor.Laws as T′
 use Rattle.surface.proofs.PatchRange as S
@@ -125,7 +127,7 @@ module _ {M : Type 1} (𝓤 : URA M) (H : Heap 𝓤) (A : Atoms 𝓤) (W : Given
   exits : (r : PatchRange) (u : Val) → patchValue r ≡ found → ent 𝓤 (⋆ 𝓤 H A (‵ (S.the-row .own r (u ∷ [])) ∷ (‵ (flft κ q) ⊛ ‵ ftrue) ∷ ‵ Own ∷ [])) (Post u)
   exits r u e =
       qed W (‵ (S.the-row .own r (u ∷ [])) ∷ (‵ (flft κ q) ⊛ ‵ ftrue) ∷ ‵ Own ∷ []) ∵
-      suffices ! _ (ends-at 𝓤 H A next.ended stayed (next.clauses 𝓤 H A mem run) W (((κ, tt), (q, tt), tt, (d, tt), (mach ∷ [], tt)), tt) u r (tt, tt) (tt, tt)) $ says ! e $
+      suffices ! _ (ends-at 𝓤 H A next.ended stayed (next.clauses 𝓤 H A mem run) W (((κ, tt), (q, tt), tt, (d, tt), (mach ∷ [], tt)), tt) u r (tt, tt) (tt, tt)) $ says-both ! e (λ n b. e ∙ next-is-patch (now (d .blob)) (d .at) (d .left) n b) $
       move ! (1 ∷ []) $ frame ! $ nothing ! $ move ! (2 ∷ 0 ∷ []) $ fjoin ! $ frame ! $ done !
 
   module _ (C : Calls 𝓤 H) (Λ : Loops 𝓤 H) (fm : FmC 𝓤 H (W .laws) C) (known : Triple 𝓤 (C #surface·next-range) (NextRange 𝓤 H A mem run)) where
