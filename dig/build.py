@@ -185,7 +185,7 @@ class Progress:
             say(line)
 
     def time_left(self):
-        if not self.left or not self.pace:
+        if not self.left or self.proved_now < sum(self.weights.values()) / 20:  # too little to tell
             return ""
         seconds = self.pace * sum(self.left.values()) - (self.shown - self.last)
         return f", about {spent(max(10, round(seconds, -1)))} left"

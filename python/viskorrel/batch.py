@@ -11,7 +11,7 @@ from ._geometry import Blobs, is_one
 from ._library import ANSWERED, LINE_BYTES, POINT_BYTES, REFUSED, AnswerArrays, BlobList, Elements, library
 from ._refusal import Refusal
 
-numpy = None  # looked for when the first batch runs: to import it takes longer than a small job
+numpy = None  # looked for when the first batch runs: to import it takes longer than a small job; False: not there
 
 # as in include/viskorrel_batch.h
 (DISTANCE, MAX_DISTANCE, INTERSECTS, DWITHIN, DFULLY_WITHIN, CLOSEST_POINT, SHORTEST_LINE, LONGEST_LINE, LINE_INTERPOLATE_POINT) = range(9)
