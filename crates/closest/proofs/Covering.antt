@@ -25,7 +25,29 @@ use Rattle.extremes.proofs.BoxOfAll.{Axis, EndsFit, Fitting, axis-x, axis-y, ax
 use Rattle.items.specs.Items.{Item, boxOfItem}
 use Rattle.items.specs.Closest.{withEach}
 use Rattle.extremes.specs.ClosestSweep.{noCloser}
-use Rattle.closest.specs.Cover.{CoversOn, Covers, lowerOf, upperOf, coverOf, emptyCover, coverItem, coverOfItems}
+use Rattle.closest.specs.Cover.{lowerOf, upperOf, coverOf, emptyCover, coverItem, coverOfItems}
+
+-- ---- what a cover is
+
+-- k is at most m, or -infinity (which alone serves an m that is NaN)
+abbrev pub LowerBound : Float → Float → Type 0
+LowerBound k m = T (le k m) ⊎ (k ≡ inf true)
+
+-- k is at least m, or +infinity
+abbrev pub UpperBound : Float → Float → Type 0
+UpperBound k m = T (le m k) ⊎ (k ≡ inf false)
+
+-- on one axis: the range lo .. hi covers lo' .. hi'
+abbrev pub CoversOn : Float → Float → Float → Float → Type 0
+CoversOn lo hi lo' hi' = LowerBound lo lo' × UpperBound hi hi'
+
+-- K covers M on each axis
+pub record Covers (K M : Aabb) : Type 0 where
+  pub on-x : CoversOn (K .«lo_x») (K .«hi_x») (M .«lo_x») (M .«hi_x»)
+  pub on-y : CoversOn (K .«lo_y») (K .«hi_y») (M .«lo_y») (M .«hi_y»)
+  pub on-z : CoversOn (K .«lo_z») (K .«hi_z») (M .«lo_z») (M .«hi_z»)
+
+-- ---- a covering box is no farther
 
 slack-fits : T (fits binary64 oneMinusSlack)
 unfolding fits

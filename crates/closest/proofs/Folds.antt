@@ -1,14 +1,18 @@
 -- Folds that skip, over joined lists and over steps that change nothing; the sweep, list after list. Assumes nothing.
-use mathlib.Core.Path.{_≡_, refl, ap, _∙_}
+use mathlib.Core.Path.{_≡_, refl, sym, ap, subst, _∙_}
+use mathlib.Core.Logic.{inr, ⊎-elim}
 use mathlib.Core.Bool.{Bool, true, false, _&&_, cond, false≢true}
 use mathlib.Core.List.{List, [], _∷_, _++_}
 use mathlib.Core.Option.{Option, none, some}
-use lib.Ieee.{lt}
+use lib.Dec.{T}
+use lib.Ieee.{lt, ne}
+use lib.Ieee.Compare.{differs-from-itself}
+use Rattle.ieee754.proofs.FloatOrder.{lt-nan-right}
 use Rattle.primitives.specs.declared.Witness.{Witness}
 use Rattle.primitives.specs.declared.Aabb.{Aabb}
 use Rattle.primitives.specs.Boxes.{leastSquaredGap}
 use Rattle.extremes.specs.Sweeps.{skipping, shorter}
-use Rattle.extremes.proofs.Lists.{each-weaken}
+use Rattle.extremes.proofs.Lists.{each-all, each-weaken}
 use Rattle.extremes.proofs.Taking.{unbeaten-row}
 use Rattle.items.specs.Items.{Item, boxOfItem}
 use Rattle.items.specs.Candidates.{candidatesOf}
@@ -16,7 +20,7 @@ use Rattle.measures.proofs.NotBelowZero.{Distant}
 use Rattle.items.proofs.NotBelowZero.{candidates-not-below}
 use Rattle.items.specs.Closest.{withItem, withEach, sweepOf}
 use Rattle.extremes.specs.ClosestSweep.{noCloser}
-use Rattle.closest.specs.Inner.{atZero}
+use Rattle.closest.specs.Inner.{atZero, atNan, Lasts}
 
 module _ {S X : Type 0} (skip : S → X → Bool) (step : S → X → S) where
   skipping-append : (s : S) (l m : List X) → skipping skip step (skipping skip step s l) m ≡ skipping skip step s (l ++ m)
@@ -60,7 +64,7 @@ pub sweep-next : (all : Aabb) (rs : List Item) (a : Item) (s t : Option Witness)
 unfolding sweepOf skipping
 sweep-next all rs a s t d l = rw d
 
--- ---- a best of distance 0 is never replaced
+-- ---- a best of distance 0 or NaN is never replaced
 item-at-zero : (a b : Item) (s : Option Witness) → atZero s ≡ true → withItem a s b ≡ s
 unfolding withItem
 item-at-zero a b none z = absurd (false≢true (unfold atZero in z))
@@ -68,10 +72,24 @@ item-at-zero a b (some best) z =
     unbeaten-row shorter (λ w. w) (some best) (candidatesOf a b)
     (each-weaken Distant (λ (w : Witness). lt (w .d) (best .d) ≡ false) (λ w h. h .distance (best .d) (unfold atZero in z)) (candidatesOf a b) (candidates-not-below a b))
 
-pub each-at-zero : (a : Item) (s : Option Witness) → atZero s ≡ true → (rs : List Item) → withEach a s rs ≡ s
-unfolding withEach
-each-at-zero a s z rs = skipping-stays _ (withItem a) s (λ b. item-at-zero a b s z) rs
+item-at-nan : (a b : Item) (s : Option Witness) → atNan s ≡ true → withItem a s b ≡ s
+unfolding withItem
+item-at-nan a b none z = absurd (false≢true (unfold atNan in z))
+item-at-nan a b (some best) z =
+    let n : ne (best .d) (best .d) ≡ true = unfold atNan in z in
+    unbeaten-row shorter (λ w. w) (some best) (candidatesOf a b)
+    (each-all (λ (w : Witness). lt (w .d) (best .d) ≡ false) (λ w. rw (differs-from-itself (best .d) (subst T (sym n) tt)) (lt-nan-right (w .d))) (candidatesOf a b))
 
-pub sweep-at-zero : (all : Aabb) (rs : List Item) (s : Option Witness) → atZero s ≡ true → (ls : List Item) → sweepOf all rs s ls ≡ s
+item-lasts : (a b : Item) (s : Option Witness) → Lasts s → withItem a s b ≡ s
+item-lasts a b s z = ⊎-elim (item-at-nan a b s) (item-at-zero a b s) z
+
+pub each-lasts : (a : Item) (s : Option Witness) → Lasts s → (rs : List Item) → withEach a s rs ≡ s
+unfolding withEach
+each-lasts a s z rs = skipping-stays _ (withItem a) s (λ b. item-lasts a b s z) rs
+
+pub each-at-zero : (a : Item) (s : Option Witness) → atZero s ≡ true → (rs : List Item) → withEach a s rs ≡ s
+each-at-zero a s z rs = each-lasts a s (inr z) rs
+
+pub sweep-lasts : (all : Aabb) (rs : List Item) (s : Option Witness) → Lasts s → (ls : List Item) → sweepOf all rs s ls ≡ s
 unfolding sweepOf
-sweep-at-zero all rs s z ls = skipping-stays _ (λ t a. withEach a t rs) s (λ a. each-at-zero a s z rs) ls
+sweep-lasts all rs s z ls = skipping-stays _ (λ t a. withEach a t rs) s (λ a. each-lasts a s z rs) ls

@@ -15,8 +15,8 @@ use Rattle.extremes.proofs.ClosestPoints.{closestPoints, shortest-line-of}
 use Rattle.extremes.proofs.PointsOnly as items
 use Rattle.coords.specs.Parts.{Run, mapRuns, verticesOf}
 use Rattle.coords.proofs.Parts.{vertices-map}
-use Rattle.items.specs.Items.{Item, point, itemsOf, boxOfItem, PointRuns, uniteItem, boxOfItems}
-use Rattle.items.proofs.PointRuns.{items-of-points, point-runs-mapped}
+use Rattle.items.specs.Items.{Item, point, itemsOf, boxOfItem, uniteItem, boxOfItems}
+use Rattle.items.proofs.PointRuns.{PointRuns, items-of-points, point-runs-mapped}
 use Rattle.items.specs.Candidates.{candidatesOf}
 use Rattle.items.specs.Closest.{withItem, withEach, sweepOf, closestWithin, closestOf}
 use Rattle.extremes.specs.ClosestSweep.{noCloser}

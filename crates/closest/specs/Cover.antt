@@ -1,32 +1,9 @@
--- A box that covers others: where it is passed over, so is each of them, a whole block of items at once. Serves inner contracts. Definitions only.
-use mathlib.Core.Path.{_≡_}
-use mathlib.Core.Logic.{_⊎_}
+-- A box that covers others, so that a whole block of items is passed over at once. Serves inner contracts. Definitions only.
 use mathlib.Core.Bool.{true, false, cond}
 use mathlib.Core.List.{List, foldl}
-use lib.Dec.{T}
 use lib.Ieee.{Float, inf, lt, le}
 use Rattle.primitives.specs.declared.Aabb.{Aabb}
 use Rattle.items.specs.Items.{Item, boxOfItem}
-
--- k is at most m, or -infinity (which alone serves an m that is NaN)
-abbrev pub LowerBound : Float → Float → Type 0
-LowerBound k m = T (le k m) ⊎ (k ≡ inf true)
-
--- k is at least m, or +infinity
-abbrev pub UpperBound : Float → Float → Type 0
-UpperBound k m = T (le m k) ⊎ (k ≡ inf false)
-
--- on one axis: the range lo .. hi covers lo' .. hi'
-abbrev pub CoversOn : Float → Float → Float → Float → Type 0
-CoversOn lo hi lo' hi' = LowerBound lo lo' × UpperBound hi hi'
-
--- K covers M on each axis
-pub record Covers (K M : Aabb) : Type 0 where
-  pub on-x : CoversOn (K .«lo_x») (K .«hi_x») (M .«lo_x») (M .«hi_x»)
-  pub on-y : CoversOn (K .«lo_y») (K .«hi_y») (M .«lo_y») (M .«hi_y»)
-  pub on-z : CoversOn (K .«lo_z») (K .«hi_z») (M .«lo_z») (M .«hi_z»)
-
--- ---- a cover of one box more
 
 -- the lower of two ends; -infinity if one of them is NaN
 abbrev pub lowerOf : Float → Float → Float

@@ -1,4 +1,12 @@
-// The closest sweep: the items of A in order, each with the items of B in order.
+// The closest sweep: the items of A in order, each with the items of B in order, points before segments before triangles.
+// An item of A is skipped against the box of all of B, then a pair by its two boxes (`no_closer`); a skipped pair has no candidate that is
+// strictly closer. A best of distance NaN is never replaced, so the items of A that follow are passed over (`ends`); one of 0 neither, and
+// the sweep stops there where it is asked to. Three routes give the same answer, by what B costs to look at:
+// - A is one point (`from_one_point`): each item of B is looked at once, so no box of it is kept. One point with one point needs no box at all.
+// - B has at most 16 items (`with_list`): `listing` puts each one's box and place into rows, once. Two items that follow each other in a run
+//   share candidates; what the pair before offered is not offered again (`known`, `follows`).
+// - B has more (`sweep_many`): the largest class of B is cut into at most 128 blocks with a box that covers each (`cut_part`), and a block is
+//   skipped as one pair is (`with_blocks`). The other classes are walked item by item.
 use extremes::Best;
 use extremes::ExtremePair;
 use items::Class;
@@ -26,7 +34,7 @@ ghost use Rattle.listing.specs.Listing.{RoomAt, listedItem, listedFrom};
 ghost use Rattle.items.specs.Closest.{withItem, withEach, sweepOf, closestOf};
 ghost use Rattle.extremes.specs.Found.{answerOf};
 ghost use Rattle.extremes.specs.ClosestSweep.{noCloser};
-ghost use Rattle.closest.specs.Inner.{atZero};
+ghost use Rattle.closest.specs.Inner.{atZero, Lasts};
 ghost use Rattle.closest.specs.Spans.{isOnePoint, itemsIn, itemsPast, RoomPast, itemTotal, Spanned};
 ghost use Rattle.closest.specs.Cover.{lowerOf, upperOf, coverOf, emptyCover};
 ghost use Rattle.closest.specs.Blocks.{numbersPerCursor, cursorNumbers, cursorAt, Blocks, Cut, Describes, Plans, Uncut, planWith, numbersPerPart, partAt, planAt};
@@ -65,7 +73,7 @@ pub struct Plan {
 const BLOCKS: usize = 128;
 
 // 1 - 2^-49
-const SLACK: f64 = 0.99999999999999822364316059975;
+const ONE_MINUS_SLACK: f64 = 0.99999999999999822364316059975;
 
 // Whether a pair whose boxes are that far apart, squared, is no closer than the best.
 fn no_closer(best: Best, gap: f64) -> bool
@@ -75,7 +83,7 @@ fn no_closer(best: Best, gap: f64) -> bool
     if d < 0.0 {
         return false;
     }
-    gap * SLACK >= d * d
+    gap * ONE_MINUS_SLACK >= d * d
 }
 
 // Whether the sweep may stop: at 0, where that is asked for.
@@ -90,6 +98,17 @@ fn stops(stop_at_zero: bool, best: Best) -> bool
         return d == 0.0;
     }
     false
+}
+
+// Whether the rest of the sweep may be passed over: at NaN, which stays since nothing is less, and where the sweep may stop.
+fn ends(stop_at_zero: bool, best: Best) -> bool
+    ensures { λ r. ⌜ (r ≡ true → Lasts (bestOf best)) ⌝ }
+{
+    let d = best.witness.d;
+    if d != d {
+        return true;
+    }
+    stops(stop_at_zero, best)
 }
 
 // How many items of a class run r has.
@@ -668,7 +687,7 @@ fn from_run(
     let count = items::item_count(class, n);
     let mut j = 0;
     while j < count {
-        if stops(stop, seen) {
+        if ends(stop, seen) {
             return seen;
         }
         seen = with_all(
@@ -988,6 +1007,9 @@ fn with_class(
     let mut at = 0;
     let mut r = 0;
     while r < count {
+        if ends(stop, seen) {
+            return seen;
+        }
         let n = parts::count_at(table, r);
         if items::is_of_class(class, parts::kind_at(table, r)) {
             seen = with_run(seen, stop, a, a_box, class, floats, at, n);

@@ -7,7 +7,12 @@ use borrow.Author.Tests.{eqb-true}
 use Rattle.coords.specs.Parts.{Run, run, mapRuns, isPoint, isLine, isFace, pointVertices, segmentVertices, faceVertices, verticesOf}
 use Rattle.primitives.specs.declared.Point.{Point}
 use Rattle.extremes.proofs.Lists.{map-append}
-use Rattle.items.specs.Items.{Item, point, pointsOf, segmentsOf, trianglesOf, itemsOfKind, itemsOf, PointRuns}
+use Rattle.items.specs.Items.{Item, point, pointsOf, segmentsOf, trianglesOf, itemsOfKind, itemsOf}
+
+-- no run is a line or ring (document 01, Words of the third property)
+unfoldable pub PointRuns : {A : Type 0} → List (Run A) → Type 0
+PointRuns [] = Unit {0}
+PointRuns (run kind cs ∷ rs) = (isPoint kind ≡ true) × PointRuns rs
 
 no-line : (kind : ℕ) → isPoint kind ≡ true → isLine kind ≡ false
 no-line kind e = rw (eqb-true kind 1 e)

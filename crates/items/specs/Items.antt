@@ -1,7 +1,6 @@
 -- What the closest sweep pairs off: points, segments and triangles (document 01, Parts, Pair measures, Closest sweep). Definitions only.
 use Prim.Native.Nat.{ℕ}
-use mathlib.Core.Path.{_≡_}
-use mathlib.Core.Bool.{Bool, true, cond}
+use mathlib.Core.Bool.{Bool, cond}
 use mathlib.Core.List.{List, [], _∷_, _++_, map, foldl}
 use mathlib.Core.Option.{Option, none, some}
 use Rattle.coords.specs.Parts.{Run, run, isPoint, isLine, isFace}
@@ -68,10 +67,3 @@ uniteItem (some box) i = some (unionOf box (boxOfItem i))
 -- the box of all items; none if there is no item (document 01, Closest sweep: all of B)
 unfoldable pub boxOfItems : List Item → Option Aabb
 boxOfItems is = foldl uniteItem none is
-
--- ---- point runs only (document 01, Words of the third property)
-
--- no run is a line or ring
-unfoldable pub PointRuns : {A : Type 0} → List (Run A) → Type 0
-PointRuns [] = Unit {0}
-PointRuns (run kind cs ∷ rs) = (isPoint kind ≡ true) × PointRuns rs

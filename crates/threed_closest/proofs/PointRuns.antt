@@ -12,7 +12,7 @@ use Rattle.coords.proofs.Each.{Each, each-at}
 use Rattle.coords.proofs.EachRun.{RunKind}
 use Rattle.coords.proofs.RunFacts.{HasRunKind, walk-kinds}
 use Rattle.blob.specs.Blob.{walkOfBlob, runsOfBlob}
-use Rattle.items.specs.Items.{PointRuns}
+use Rattle.items.proofs.PointRuns.{PointRuns}
 use Rattle.outcomes.specs.ThirdProperty.{PointRunsOnly}
 
 walked-kinds : (s : List ℕ) (w : Parsed Geometry) → walkOfBlob s ≡ w → Each HasRunKind (walkedRuns w)

@@ -14,7 +14,7 @@ use Rattle.items.specs.Items.{itemsOf}
 use Rattle.items.specs.InnerRepeats.{firstBefore}
 use Rattle.items.specs.Closest.{sweepOf}
 use Rattle.closest.specs.Known.{Known}
-use Rattle.closest.proofs.Folds.{and-true, sweep-next, sweep-at-zero}
+use Rattle.closest.proofs.Folds.{sweep-next, sweep-lasts}
 use Rattle.closest.proofs.Known.{none-known}
 use Rattle.closest.proofs.from_run.Statement.{statement}
 use Rattle.closest.proofs.from_run.Tie as tie
@@ -34,11 +34,11 @@ item-count-requires c κs = search needs
 loop-holds : tie.Need-loop-holds Inv-loop μ-loop
 loop-holds c = (omega arith, c .before .before .before .before .before .before .before .pre .0, ap (sweepOf _ _ _) (left-start _ _ _ _), λ k h e. absurd (false≢true (sym (none-known 16 k) ∙ e)))
 
-stops-requires : tie.Need-stops-requires Inv-loop μ-loop
-stops-requires c κs = search needs
+ends-requires : tie.Need-ends-requires Inv-loop μ-loop
+ends-requires c κs = search needs
 
 returns : tie.Need-returns Inv-loop μ-loop
-returns c = record { same = sym (sweep-at-zero _ _ _ (and-true (c .before .before .before .before .before .before .before .before .before .before .before .args .stop) _ (sym (c .before .stops .ensures) ∙ c .if1 .taken)) _) ∙ c .before .before .before .loop .inv .2; sound = c .before .before .before .loop .inv .1 }
+returns c = record { same = sym (sweep-lasts _ _ _ (c .before .ends .ensures (c .if1 .taken)) _) ∙ c .before .before .before .loop .inv .2; sound = c .before .before .before .loop .inv .1 }
 
 item-at-requires : tie.Need-item-at-requires Inv-loop μ-loop
 item-at-requires c κs = (c .before .before .before .before .before .before .before .before .before .before .before .pre .1 .0, omega (arith, c .before .before .before .before .item-count .ensures))
@@ -72,7 +72,7 @@ from-run-spec =
     μ-loop
     item-count-requires
     loop-holds
-    stops-requires
+    ends-requires
     returns
     item-at-requires
     with-all-requires
