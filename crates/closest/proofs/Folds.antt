@@ -83,7 +83,7 @@ item-at-nan a b (some best) z =
 item-lasts : (a b : Item) (s : Option Witness) → Lasts s → withItem a s b ≡ s
 item-lasts a b s z = ⊎-elim (item-at-nan a b s) (item-at-zero a b s) z
 
-pub each-lasts : (a : Item) (s : Option Witness) → Lasts s → (rs : List Item) → withEach a s rs ≡ s
+each-lasts : (a : Item) (s : Option Witness) → Lasts s → (rs : List Item) → withEach a s rs ≡ s
 unfolding withEach
 each-lasts a s z rs = skipping-stays _ (withItem a) s (λ b. item-lasts a b s z) rs
 

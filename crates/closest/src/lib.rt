@@ -1007,9 +1007,6 @@ fn with_class(
     let mut at = 0;
     let mut r = 0;
     while r < count {
-        if ends(stop, seen) {
-            return seen;
-        }
         let n = parts::count_at(table, r);
         if items::is_of_class(class, parts::kind_at(table, r)) {
             seen = with_run(seen, stop, a, a_box, class, floats, at, n);

@@ -12,7 +12,7 @@ use Rattle.items.proofs.Turns.{turn-run, pass-run, no-items}
 use Rattle.items.specs.Inner.{itemOf, classItems}
 use Rattle.extremes.specs.InnerBest.{bestOf, Sound}
 use Rattle.items.specs.Closest.{withEach}
-use Rattle.closest.proofs.Folds.{each-append, each-none, each-lasts}
+use Rattle.closest.proofs.Folds.{each-append, each-none}
 use Rattle.closest.proofs.with_class.Statement.{statement}
 use Rattle.closest.proofs.with_class.Tie as tie
 
@@ -31,52 +31,46 @@ loop-holds : tie.Need-loop-holds Inv-loop μ-loop
 unfolding storedRuns
 loop-holds c = (room-start (c .before .before .before .args .table .now) (c .before .before .before .args .floats .now) (c .before .before .before .pre .1 .1), c .before .before .before .pre .0, refl)
 
-ends-requires : tie.Need-ends-requires Inv-loop μ-loop
-ends-requires c κs = search needs
-
-returns : tie.Need-returns Inv-loop μ-loop
-returns c = record { same = sym (each-lasts _ _ (c .before .ends .ensures (c .if1 .taken)) _) ∙ c .before .before .before .loop .inv .2; sound = c .before .before .before .loop .inv .1 }
-
 count-at-requires : tie.Need-count-at-requires Inv-loop μ-loop
-count-at-requires c κs = omega (arith, c .before .before .before .before .run-count .ensures)
+count-at-requires c κs = omega (arith, c .before .before .run-count .ensures)
 
 kind-at-requires : tie.Need-kind-at-requires Inv-loop μ-loop
-kind-at-requires c κs = omega (arith, c .before .before .before .before .before .run-count .ensures)
+kind-at-requires c κs = omega (arith, c .before .before .before .run-count .ensures)
 
 is-of-class-requires : tie.Need-is-of-class-requires Inv-loop μ-loop
 is-of-class-requires c κs = search needs
 
 with-run-requires : tie.Need-with-run-requires Inv-loop μ-loop
-with-run-requires c κs = let args = c .before .before .before .before .before .before .before .before .before .before .before .args in
-    let h : c .before .before .before .before .before .before .before .loop .r < runCount (args .table .now) = omega (arith, c .before .before .before .before .before .before .before .before .run-count .ensures) in
-    (c .before .before .before .before .before .before .before .loop .inv .1, (c .before .before .before .before .before .before .before .before .before .before .before .pre .1 .0, room-run (args .table .now) (args .floats .now) (c .before .before .before .before .before .before .before .loop .r) (c .before .before .before .before .before .before .before .loop .at) _ h (c .before .before .before .count-at .ensures) (c .before .before .before .before .before .before .before .loop .inv .0)))
+with-run-requires c κs = let args = c .before .before .before .before .before .before .before .before .before .args in
+    let h : c .before .before .before .before .before .loop .r < runCount (args .table .now) = omega (arith, c .before .before .before .before .before .before .run-count .ensures) in
+    (c .before .before .before .before .before .loop .inv .1, (c .before .before .before .before .before .before .before .before .before .pre .1 .0, room-run (args .table .now) (args .floats .now) (c .before .before .before .before .before .loop .r) (c .before .before .before .before .before .loop .at) _ h (c .before .before .before .count-at .ensures) (c .before .before .before .before .before .loop .inv .0)))
 
 add-at : tie.Need-add-at Inv-loop μ-loop
-add-at c = let args = c .before .before .before .before .before .before .before .before .before .before .before .args in
-    let h : c .before .before .before .before .before .before .before .loop .r < runCount (args .table .now) = omega (arith, c .before .before .before .before .before .before .before .before .run-count .ensures) in
-    omega (arith, room-run (args .table .now) (args .floats .now) (c .before .before .before .before .before .before .before .loop .r) (c .before .before .before .before .before .before .before .loop .at) (c .before .before .before .count-at .result) h (c .before .before .before .count-at .ensures) (c .before .before .before .before .before .before .before .loop .inv .0))
+add-at c = let args = c .before .before .before .before .before .before .before .before .before .args in
+    let h : c .before .before .before .before .before .loop .r < runCount (args .table .now) = omega (arith, c .before .before .before .before .before .before .run-count .ensures) in
+    omega (arith, room-run (args .table .now) (args .floats .now) (c .before .before .before .before .before .loop .r) (c .before .before .before .before .before .loop .at) (c .before .before .before .count-at .result) h (c .before .before .before .count-at .ensures) (c .before .before .before .before .before .loop .inv .0))
 
 add-r : tie.Need-add-r Inv-loop μ-loop
-add-r c = omega (arith, c .before .before .before .before .before .before .before .before .run-count .ensures)
+add-r c = omega (arith, c .before .before .before .before .before .before .run-count .ensures)
 
 loop-less : tie.Need-loop-less Inv-loop μ-loop
-loop-less c = omega (arith, c .before .before .before .before .before .before .before .before .run-count .ensures)
+loop-less c = omega (arith, c .before .before .before .before .before .before .run-count .ensures)
 
 loop-again : tie.Need-loop-again Inv-loop μ-loop
-loop-again c = let args = c .before .before .before .before .before .before .before .before .before .before .before .args in
-    let loop = c .before .before .before .before .before .before .before .loop in
-    let h : loop .r < runCount (args .table .now) = omega (arith, c .before .before .before .before .before .before .before .before .run-count .ensures) in
+loop-again c = let args = c .before .before .before .before .before .before .before .before .before .args in
+    let loop = c .before .before .before .before .before .loop in
+    let h : loop .r < runCount (args .table .now) = omega (arith, c .before .before .before .before .before .before .run-count .ensures) in
     let f = withEach (itemOf (args .a)) in (
       room-next (args .table .now) (args .floats .now) (loop .r) (loop .at) _ h (c .before .before .before .count-at .ensures) (loop .inv .0),
-      ⊎-elim {C = Sound (c .if2 .seen)} (λ w. rw (w .2) (w .1 .ensures .sound)) (λ w. rw (w .1) (loop .inv .1)) (c .if2 .came),
+      ⊎-elim {C = Sound (c .if1 .seen)} (λ w. rw (w .2) (w .1 .ensures .sound)) (λ w. rw (w .1) (loop .inv .1)) (c .if1 .came),
       ⊎-elim
           (λ w. turn-run (args .class) (args .floats .now) (args .table .now) (loop .at) (loop .r) h _ _ _ (c .before .before .before .count-at .ensures) (c .before .before .kind-at .ensures) (c .before .is-of-class .ensures) f (each-append _) (w .0 .taken) (ap bestOf (w .2) ∙ w .1 .ensures .same) ∙ loop .inv .2)
           (λ w. pass-run (args .class) (args .floats .now) (args .table .now) (loop .at) (loop .r) h _ _ _ (c .before .before .before .count-at .ensures) (c .before .before .kind-at .ensures) (c .before .is-of-class .ensures) f (w .0 .left) (ap bestOf (w .1)) ∙ loop .inv .2)
-          (c .if2 .came),
+          (c .if1 .came),
     )
 
-returns-2 : tie.Need-returns-2 Inv-loop μ-loop
-returns-2 c = let args = c .before .before .before .before .before .args in
+returns : tie.Need-returns Inv-loop μ-loop
+returns c = let args = c .before .before .before .before .before .args in
     let loop = c .before .loop in
     let h : runCount (args .table .now) ≤ loop .r = omega (arith, c .before .before .run-count .ensures) in
     record { same = sym (each-none _ _ _ (no-items (args .class) (args .floats .now) (loop .at) (args .table .now) (loop .r) h)) ∙ loop .inv .2; sound = loop .inv .1 }
@@ -89,8 +83,6 @@ with-class-spec =
     μ-loop
     run-count-requires
     loop-holds
-    ends-requires
-    returns
     count-at-requires
     kind-at-requires
     is-of-class-requires
@@ -99,4 +91,4 @@ with-class-spec =
     add-r
     loop-less
     loop-again
-    returns-2)
+    returns)
