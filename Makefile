@@ -62,6 +62,7 @@ install: all
 	$(INSTALL) -m 644 LICENSE-MIT LICENSE-APACHE NOTICE README.md CHANGELOG.md "$(DESTDIR)$(DOCDIR)"
 	$(INSTALL) -m 644 python/README.md "$(DESTDIR)$(DOCDIR)/README-python.md"
 	$(INSTALL) -m 644 sqlite/README.md "$(DESTDIR)$(DOCDIR)/README-sqlite.md"
+	$(INSTALL) -m 644 dig/README.md "$(DESTDIR)$(DOCDIR)/README-dig.md"
 	$(INSTALL) -D -m 644 docs/demo.svg "$(DESTDIR)$(DOCDIR)/docs/demo.svg"
 ifneq ($(PYTHONDIR),)
 	$(INSTALL) -d "$(DESTDIR)$(PYTHONDIR)"

@@ -11,6 +11,7 @@ import hashlib
 import os
 import re
 import shutil
+import signal
 import subprocess
 import sys
 import time
@@ -84,12 +85,17 @@ def files(crate, rooms=("specs", "src", "proofs")):
                   for folder, _, names in os.walk(os.path.join(ROOT, "crates", crate, room)) for file in names)
 
 
+def of_sources(needs):
+    """One sum over the crates: their lines of crates.txt, their files."""
+    return total(*(part for crate in sorted(needs) for part in (
+        " ".join([crate, *needs[crate]]).encode(),
+        *(part for path in files(crate) for part in (os.path.relpath(path, ROOT).encode(), content(path))))))
+
+
 def prove():
     """Proves and builds the archive, if it is not there or was made of something else."""
     needs = crates()
-    made_of = total(*(part for crate in sorted(needs) for part in (
-        " ".join([crate, *needs[crate]]).encode(),
-        *(part for path in files(crate) for part in (os.path.relpath(path, ROOT).encode(), content(path))))))
+    made_of = of_sources(needs)
     if is_made_of(ARCHIVE, made_of):
         return
     known = "was made of other sources" if os.path.exists(ARCHIVE) else "is not there"
@@ -102,6 +108,8 @@ def prove():
     run(Progress({crate: EACH + sum(map(os.path.getsize, files(crate, ["src"]))) for crate in needs}))
     if not os.path.exists(ARCHIVE):
         raise Problems(f"rt staticlib viskorrel made no archive; its lines are in {LOG}")
+    if of_sources(crates()) != made_of:
+        raise Problems("the sources changed while they were proved: what was built is perhaps of neither; build again")
     remember(ARCHIVE, made_of)
     say(f"Proved and built in {spent(time.monotonic() - start)}.")
 
@@ -109,7 +117,8 @@ def prove():
 def run(progress):
     """Runs rt; its lines go to the log, what they tell of the crates is shown."""
     with open(LOG, "w", encoding="utf-8") as log:
-        process = subprocess.Popen(["rt", "staticlib", "viskorrel"], cwd=ROOT, stdin=subprocess.DEVNULL, stdout=log, stderr=log)
+        process = subprocess.Popen(["rt", "staticlib", "viskorrel"], cwd=ROOT, stdin=subprocess.DEVNULL, stdout=log, stderr=log,
+                                   start_new_session=True)  # so that all of it can be ended
         with open(LOG, encoding="utf-8", errors="replace") as lines:
             while True:
                 try:
@@ -117,6 +126,7 @@ def run(progress):
                 except subprocess.TimeoutExpired:
                     status = None
                 except KeyboardInterrupt:
+                    os.killpg(process.pid, signal.SIGTERM)
                     process.wait()
                     raise
                 progress.read(lines.read())
@@ -175,7 +185,7 @@ class Progress:
             say(line)
 
     def time_left(self):
-        if not self.left or not self.pace:
+        if not self.left or self.proved_now < sum(self.weights.values()) / 20:  # too little to tell
             return ""
         seconds = self.pace * sum(self.left.values()) - (self.shown - self.last)
         return f", about {spent(max(10, round(seconds, -1)))} left"

@@ -19,31 +19,40 @@ def library(named=None):
     if own and untouched():
         return SHARED
     from dig import build
+    before = stamps(sources()) if own else None  # what is changed from here on was perhaps not read
     path = build.library(named)
     if own:
         with open(SEEN, "w") as file:
-            file.write(seen())
+            file.write(seen(before))
     return path
 
 
 def untouched():
     try:
         with open(SEEN) as file:
-            return file.read() == seen()
+            return file.read() == seen(stamps(sources()))
     except FileNotFoundError:
         return False
 
 
-def seen():
-    """A sum over names, sizes and times of all that the library is made of. The time of a file's last change can't be set back."""
-    found, folders = [], [os.path.join(ROOT, name) for name in SOURCES]
+def seen(of_sources):
+    """A sum over all that the library is made of, and over what was made."""
+    return hashlib.sha256(repr((os.environ.get("CC"), of_sources, stamps([SHARED, ARCHIVE]))).encode()).hexdigest()
+
+
+def sources():
+    """The files that the library is made of, and some more."""
+    found, folders = [os.path.join(ROOT, "crates.txt")], [os.path.join(ROOT, name) for name in SOURCES]
     while folders:
         for entry in os.scandir(folders.pop()):
-            if entry.is_dir():
-                if entry.name != "must-fail":  # no part of the library
-                    folders.append(entry.path)
-            else:
-                found.append((entry.path, entry.stat()))
-    found += [(path, os.stat(path)) for path in (SHARED, ARCHIVE, os.path.join(ROOT, "crates.txt"))]
-    told = sorted((path, stat.st_ino, stat.st_size, stat.st_mtime_ns, stat.st_ctime_ns) for path, stat in found)
-    return hashlib.sha256(repr((os.environ.get("CC"), told)).encode()).hexdigest()
+            if not entry.is_dir():
+                found.append(entry.path)
+            elif entry.name != "must-fail":  # no part of the library
+                folders.append(entry.path)
+    return found
+
+
+def stamps(paths):
+    """Names, sizes and times of files. The time of a file's last change can't be set back."""
+    found = sorted((path, os.stat(path)) for path in paths)
+    return [(path, stat.st_ino, stat.st_size, stat.st_mtime_ns, stat.st_ctime_ns) for path, stat in found]

@@ -11,7 +11,7 @@ from ._geometry import Blobs, is_one
 from ._library import ANSWERED, LINE_BYTES, POINT_BYTES, REFUSED, AnswerArrays, BlobList, Elements, library
 from ._refusal import Refusal
 
-numpy = None  # looked for when the first batch runs: to import it takes longer than a small job
+numpy = None  # looked for when the first batch runs: to import it takes longer than a small job; False: not there
 
 # as in include/viskorrel_batch.h
 (DISTANCE, MAX_DISTANCE, INTERSECTS, DWITHIN, DFULLY_WITHIN, CLOSEST_POINT, SHORTEST_LINE, LONGEST_LINE, LINE_INTERPOLATE_POINT) = range(9)
@@ -62,11 +62,12 @@ class Answers:
 
     def finish(self, blobs):
         """Collects the refusals; blobs(k, side) is the geometry that one speaks of."""
-        at = -1
-        for _ in range(self._outcomes.count(REFUSED)):
-            at = self._outcomes.index(REFUSED, at + 1)
+        outcomes = self._outcomes.tobytes()
+        at = outcomes.find(REFUSED)
+        while at >= 0:
             number, side = self._numbers[at], self._sides[at]
             self.refusals[at] = Refusal(number, side, blobs(at, side) if side else None, element=at)
+            at = outcomes.find(REFUSED, at + 1)
         self.outcomes, self.numbers, self.sides = (plain(part, "u1") for part in (self._outcomes, self._numbers, self._sides))
         if self._operation in VALUES:
             for place, outcome in enumerate(self._outcomes) if self._outcomes.count(ANSWERED) < len(self) else ():
