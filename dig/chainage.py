@@ -3,10 +3,10 @@ import itertools
 import math
 from collections import namedtuple
 
+import viskorrel
 from dig.geopackage import LINE
-from dig.measure import line, shortest
+from dig.measure import line, point, shortest
 
-CHUNK = 32     # segments with one box, where the foot in plan is looked for
 JOINED = 0.01  # metres between the end of a run and the start of the next that follows it
 
 
@@ -44,26 +44,19 @@ class Chainage:
                 end = way + math.hypot(b[0] - a[0], b[1] - a[1])
                 self.segments.append(Segment(len(self.segments), a, b, way, end))
                 way = end
-        self._chunks = None
+        self._in_plan = {}
 
     def there(self):
         return bool(self.segments)
 
-    def of(self, place):
-        """The chainage of the foot of a place in plan."""
-        if self._chunks is None:
-            self._chunks = [chunk(self.segments[at:at + CHUNK]) for at in range(0, len(self.segments), CHUNK)]
-        best = (math.inf, None)
-        for low, high, segments in self._chunks:
-            if math.hypot(*(max(least - p, p - most, 0.0) for least, p, most in zip(low, place, high))) < best[0]:
-                best = min([best, *(segment.foot(place, 2) for segment in segments)], key=lambda found: found[0])
-        return best[1]
-
-
-def chunk(segments):
-    """Segments with the box around them in plan."""
-    axes = list(zip(*(place[:2] for segment in segments for place in (segment.a, segment.b))))
-    return tuple(map(min, axes)), tuple(map(max, axes)), segments
+    def in_plan(self, places):
+        """The chainages of the feet of places in plan, by place; all at once, since there are many where a profile is drawn."""
+        new = list({place for place in places if place not in self._in_plan})
+        flat = [line([(*segment.a[:2], 0.0), (*segment.b[:2], 0.0)]) for segment in self.segments]
+        found = viskorrel.nearest([point((*place[:2], 0.0)) for place in new], flat)
+        for place, at in zip(new, found.places):
+            self._in_plan[place] = self.segments[at].foot(place, 2)[1]
+        return self._in_plan
 
 
 def in_order(runs):

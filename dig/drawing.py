@@ -1,4 +1,5 @@
 """Marks, lines, names and scales of a drawing, as SVG. What is drawn is not proved."""
+import bisect
 import html
 import math
 import unicodedata
@@ -122,21 +123,26 @@ def north_arrow(frame):
             + halo(x, y + 37, "N", size=12, anchor="middle", weight="bold"))
 
 
-def near(features, frame):
-    """The runs of features that reach into a frame in plan: of a line its segments, others whole."""
-    left, right = frame.u(frame.left), frame.u(frame.left + frame.width)
-    low, high = frame.v(frame.top + frame.height), frame.v(frame.top)
-    out = []
-    for feature in features:
-        runs = []
-        for kind, run in feature.runs:
-            for piece in [run] if kind != LINE else zip(run, run[1:]):
-                xs, ys = [p[0] for p in piece], [p[1] for p in piece]
-                if min(xs) <= right and max(xs) >= left and min(ys) <= high and max(ys) >= low:
-                    runs.append((kind, piece))
-        if runs:
-            out.append(feature._replace(runs=runs))
-    return out
+class Pieces:
+    """Features cut for close-ups: lines by segment, other runs whole, by the left end of each in plan."""
+
+    def __init__(self, features):
+        found = []
+        for feature in features:
+            for kind, run in feature.runs:
+                for piece in [run] if kind != LINE else zip(run, run[1:]):
+                    xs, ys = [p[0] for p in piece], [p[1] for p in piece]
+                    found.append((min(xs), max(xs), min(ys), max(ys), len(found), feature._replace(runs=[(kind, piece)])))
+        self.found = sorted(found, key=lambda piece: piece[0])
+        self.lefts = [piece[0] for piece in self.found]
+        self.widest = max((piece[1] - piece[0] for piece in found), default=0.0)
+
+    def near(self, frame):
+        """Those that reach into a frame, in the order of the features."""
+        left, right = frame.u(frame.left), frame.u(frame.left + frame.width)
+        low, high = frame.v(frame.top + frame.height), frame.v(frame.top)
+        here = self.found[bisect.bisect_left(self.lefts, left - self.widest):bisect.bisect_right(self.lefts, right)]
+        return [piece[5] for piece in sorted(here, key=lambda piece: piece[4]) if piece[1] >= left and piece[2] <= high and piece[3] >= low]
 
 
 def scene(at, made, digs, dents, struck, welds, r):
@@ -188,7 +194,7 @@ class Names:
     CELL = 40
 
     def __init__(self, frame):
-        self.frame, self.cells, self.missing, self.out = frame, {}, 0, []
+        self.frame, self.cells, self.spots, self.missing, self.out = frame, {}, set(), 0, []
         right, bottom = frame.left + frame.width, frame.top + frame.height
         # the corners that the scale, the arrow and the count of names left out take
         self.take((frame.left, bottom - 30, frame.left + frame.width / 3, bottom))
@@ -204,7 +210,10 @@ class Names:
                 for j in range(int(rect[1] // self.CELL), int(rect[3] // self.CELL) + 1)]
 
     def mark(self, x, y, r):
-        self.take((x - r, y - r, x + r, y + r))
+        spot = round(x / 4), round(y / 4)  # marks over each other are one
+        if spot not in self.spots:
+            self.spots.add(spot)
+            self.take((x - r, y - r, x + r, y + r))
 
     def free(self, rect):
         inside = (rect[0] >= self.frame.left + 2 and rect[1] >= self.frame.top + 2 and rect[2] <= self.frame.left + self.frame.width - 2

@@ -30,9 +30,12 @@ def told(refusal):
 
 def multipoint(vertices):
     """Vertices as one WKB MultiPoint Z, little-endian."""
-    parts = [struct.pack("<BII", 1, 1004, len(vertices))]
-    parts += [struct.pack("<BI3d", 1, 1001, *vertex) for vertex in vertices]
-    return b"".join(parts)
+    return struct.pack("<BII", 1, 1004, len(vertices)) + b"".join(map(point, vertices))
+
+
+def point(vertex):
+    """A vertex as one WKB Point Z, little-endian."""
+    return struct.pack("<BI3d", 1, 1001, *vertex)
 
 
 def line(vertices):

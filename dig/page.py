@@ -36,8 +36,9 @@ def draw(made, tolerance):
     listed = made.list
     title = f"Dig list of {listed.stamp.file}"
     parts = [f"<h1>{text(title)}</h1><p>{text(summary(listed))}.</p>", warned(listed.warnings), overview(made), digs(listed),
-             dents("h2", listed.dents, listed, tolerance), quiet(listed), stamped(listed)]
-    parts += [sheet(made, dig, number, tolerance) for number, dig in enumerate(listed.digs)]
+             dents("h2", listed.dents, tolerance), quiet(listed), stamped(listed)]
+    around = picture.cut(made)
+    parts += [sheet(listed, around, dig, number, tolerance) for number, dig in enumerate(listed.digs)]
     return ('<!DOCTYPE html>\n<html lang="en"><head><meta charset="utf-8"><meta name="viewport" content="width=device-width">'
             f"<title>{text(title)}</title><style>{STYLE}</style></head><body>\n" + "\n".join(parts) + "\n</body></html>\n")
 
@@ -82,7 +83,7 @@ def digs(listed):
         ["group", "chainage m", "dents", "new", "width m", "from dent x", "y", "z", "to weld x", "y", "z"], {0}, content)
 
 
-def dents(heading, those, listed, tolerance):
+def dents(heading, those, tolerance):
     content = [[dent.feature.name, dent.feature.group, way(dent.chainage), dent.nearest.name if dent.nearest else "-",
                 digits(dent.distance, tolerance, dent.state) if dent.nearest else "-", state(dent)] for dent in those]
     return (f"<{heading}>Dents</{heading}><p>Struck off within {tolerance!r} m of a struck-off dent.</p>" + rows(
@@ -101,17 +102,17 @@ def place(vertex):
     return [f"{number:.3f}" for number in vertex]
 
 
-def sheet(made, dig, number, tolerance):
+def sheet(listed, around, dig, number, tolerance):
     """What a crew takes along: where the dig is, what to stake out, what is in it."""
     frame = Frame(0.5, 0.5, SHEET - 1, CLOSE_UP, *picture.spread(dig), True, pad=44)
     scale = frame.round_scale()
-    drawn = svg(SHEET, CLOSE_UP + 2, picture.close_up(made, dig, frame, f"sheet{number}"))
+    drawn = svg(SHEET, CLOSE_UP + 2, picture.close_up(around, dig, frame, f"sheet{number}"))
     way_there = f"chainage {way(dig.chainage)} m, " if dig.chainage is not None else ""
     return (f'<section class="sheet"><h2>Dig {text(dig.name)}</h2>'
             f'<p class="facts">{way_there}<b>{dig.width:.3f} m wide</b>, {dig.new} of {dig.count} dents new</p>'
             + warned(dig.warnings + list(dict.fromkeys(line for dent in dig.dents for line in dent.warnings)))
             + drawn + f"<p>Scale 1:{scale:g} on A4 (printed at 100 %); north of the grid is up.</p>"
-            + stakes(dig) + dents("h3", dig.dents, made.list, tolerance) + stamped(made.list) + "</section>")
+            + stakes(dig) + dents("h3", dig.dents, tolerance) + stamped(listed) + "</section>")
 
 
 def stakes(dig):

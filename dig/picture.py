@@ -1,7 +1,7 @@
 """The dig list as an SVG: plan, profile, and each dig by itself."""
 import math
 
-from dig.drawing import (DONE, FRESH, Frame, Names, box, legend, near, north_arrow, scale_bar, scene, short, ticks, words)
+from dig.drawing import DONE, FRESH, Frame, Names, Pieces, box, legend, north_arrow, scale_bar, scene, short, ticks, words
 from dig.diglist import NEW
 from dig.listing import summary
 
@@ -10,7 +10,8 @@ INSIDE = WIDTH - 2 * MARGIN
 PROFILE = 240
 COLUMNS, GAP, HEAD = 4, 20, 60
 SIDE = (INSIDE - GAP * (COLUMNS - 1)) / COLUMNS
-MANY = 60  # digs: from there on marks are smaller
+MANY = 60          # digs: from there on marks are smaller
+MOST_NAMES = 300   # of digs in one drawing: of more, every second is named, or every third, ...
 
 
 def places(made):
@@ -71,25 +72,22 @@ def all_digs(made, frame, at):
     for dent in made.list.dents:
         if dent.state == NEW:
             names.mark(*at(dent.feature.vertices[0]), 1.7 * r)
-    for dig in made.list.digs:
-        (a, b), (c, d) = at(dig.start), at(dig.end)
-        names.put((a + c) / 2, (b + d) / 2, dig.name)
+    apart = math.ceil(len(made.list.digs) / MOST_NAMES) or 1
+    for number, dig in enumerate(made.list.digs):
+        if number % apart:
+            names.missing += 1
+        else:
+            (a, b), (c, d) = at(dig.start), at(dig.end)
+            names.put((a + c) / 2, (b + d) / 2, dig.name)
     return out + names.svg()
 
 
 def profile(made, top):
     top += 44
     every = places(made)
-    known = {}
-
-    def way(place):
-        if not made.chainage.there():
-            return place[0] - least
-        if place not in known:
-            known[place] = made.chainage.of(place)
-        return known[place]
     least = min(place[0] for place in every)
-    us, vs = [way(p) for p in every], [p[2] for p in every]
+    ways = made.chainage.in_plan(every) if made.chainage.there() else {place: place[0] - least for place in every}
+    us, vs = [ways[p] for p in every], [p[2] for p in every]
     frame = Frame(MARGIN, top, INSIDE, PROFILE, us, vs, False, pad=34)
     ratio = frame.sv / frame.su
     larger = f"{ratio:.0f}" if ratio >= 10 else f"{ratio:.2g}"
@@ -108,14 +106,14 @@ def profile(made, top):
     out.append('<g clip-path="url(#profile)">')
 
     def at(place):
-        return frame.at(way(place), place[2])
+        return frame.at(ways[place], place[2])
     return top + PROFILE, out + all_digs(made, frame, at) + ["</g>"]
 
 
 def digs(made, top):
     """Each dig by itself, in rows."""
     top += 60
-    listed = made.list.digs
+    listed, around = made.list.digs, cut(made)
     out = []
     if listed:
         out = [words(MARGIN, top - 8, "Digs", size=15, weight="bold"),
@@ -126,7 +124,7 @@ def digs(made, top):
         way = f"chainage {dig.chainage:.2f} m, " if dig.chainage is not None else ""
         out += [words(left, head + 14, short(dig.name), weight="bold"),
                 words(left, head + 30, f"{way}{dig.width:.3f} m wide, {dig.new} of {dig.count} new", size=12)]
-        out += close_up(made, dig, frame, f"dig{number}")
+        out += close_up(around, dig, frame, f"dig{number}")
     return top + math.ceil(len(listed) / COLUMNS) * (SIDE + HEAD) + 10, out
 
 
@@ -135,12 +133,12 @@ def spread(dig):
     return [p[0] for p in here], [p[1] for p in here]
 
 
-def close_up(made, dig, frame, id):
-    """One dig in plan, with the names of its dents."""
+def close_up(around, dig, frame, id):
+    """One dig in plan, with the names of its dents; `around` is what `cut` made."""
     def at(place):
         return frame.at(place[0], place[1])
     nearest = list({id_of(dent.nearest): dent.nearest for dent in dig.dents if dent.nearest}.values())
-    around = {"pipe": near(made.features["pipe"], frame), "fittings": near(made.features["fittings"], frame)}
+    around = {role: pieces.near(frame) for role, pieces in around.items()}
     out = [box(frame, id), f'<g clip-path="url(#{id})">'] + scene(at, around, [dig], dig.dents, nearest, dig.welds, 5.5)
     names = Names(frame)
     for dent in dig.dents:
@@ -148,6 +146,11 @@ def close_up(made, dig, frame, id):
     for dent in sorted(dig.dents, key=lambda dent: dent.state != NEW):
         names.put(*at(dent.feature.vertices[0]), dent.feature.name, colour=FRESH if dent.state == NEW else DONE)
     return out + names.svg() + [scale_bar(frame), north_arrow(frame), "</g>"]
+
+
+def cut(made):
+    """What lies around the digs, ready for their close-ups."""
+    return {role: Pieces(made.features[role]) for role in ("pipe", "fittings")}
 
 
 def id_of(feature):

@@ -246,7 +246,7 @@ EXPORTED viskorrel_reply viskorrel_blob_refusal(const uint8_t *blob, size_t leng
  * a + t (b - a) lies in the box; three rounded operations on numbers of at most 2M move it by less than 6 u M on each axis. Two such points are
  * apart by at least G - 12 sqrt(3) u M > G - 21 u M, G being the exact distance of the boxes. Differences, squares, sum and root take off
  * at most 4 u of that, and as much may have been added to G where it is computed here. So the computed distance is at least
- * G (1 - 9 u) - 21 u M: where G is above reach = least (1 + 2^-40) + 2^-40 M, it is above the least, with a thousandfold to spare over the
+ * G (1 - 9 u) - 21 u M: where G is above reach = least (1 + 2^-40) + 2^-40 M, it is above the least, with hundreds of times to spare over the
  * roundings here. No number is above 1e30 in size, so nothing overflows and no distance is NaN; what underflows is below 2^-500, and reach has 2^-400 for it.
  */
 #define LARGEST 1e30
