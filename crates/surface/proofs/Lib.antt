@@ -7,3 +7,4 @@ pub mod Listing
 pub mod Answers
 pub mod Examples
 pub mod Walks
+pub mod WholeWalk
