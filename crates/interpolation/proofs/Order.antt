@@ -28,7 +28,8 @@ use Rattle.coords.proofs.Counted.{counted-refused, counted-accepted}
 use Rattle.workspace.specs.Workspace.{tooSmall, tooSmallFor}
 use Rattle.workspace.proofs.Laws.{not-too-small}
 use Rattle.blob.specs.Blob.{walkOfBlob, runsOfBlob}
-use Rattle.interpolation.specs.Operation.{outOfRange, isNoLine, pointBytes, noSide, interpolationChecks}
+use Rattle.outcomes.specs.Operations.{noSide}
+use Rattle.interpolation.specs.Operation.{outOfRange, isNoLine, pointBytes, interpolationChecks}
 use Rattle.interpolation.specs.Inner.{Counted, checkedBy, checkedOf, Ready}
 use Rattle.interpolation.specs.declared.Checked.{Checked}
 use Rattle.interpolation.specs.declared.Checked.the-variants as checked

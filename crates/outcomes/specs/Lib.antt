@@ -1,4 +1,5 @@
 pub mod Answers
+pub mod Lent
 pub mod Operations
 pub mod ThirdProperty
 pub mod Inner

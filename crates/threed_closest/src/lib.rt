@@ -1,5 +1,7 @@
-// 3D measures by the closest pair of points, segments and triangles of two blobs: document 01's distance, within, intersects, closest point and shortest line, for every input.
-// Undecided in its contracts is only the payload, sign included, of a NaN in a workspace or in an answered number; output bytes are wholly decided.
+// 3D measures by the closest pair of points, segments and triangles of two blobs: document 01's distance, within,
+// intersects, closest point and shortest line, for every input.
+// Undecided in its contracts is only the payload, sign included, of a NaN in a workspace or in an answered number;
+// output bytes are wholly decided.
 use extremes::ExtremePair;
 use operands::Checked;
 use operands::Operands;
@@ -12,9 +14,9 @@ use workspace::NUMBERS_PER_RUN;
 ghost use mathlib.Core.Path.{_≡_};
 ghost use mathlib.Core.List.{[]};
 ghost use lib.ListN.{length};
-ghost use Rattle.operands.specs.Operands.{workspaces};
+ghost use Rattle.outcomes.specs.Lent.{lent, left};
 ghost use Rattle.operands.specs.Inner.{operandsOf, Ready};
-ghost use Rattle.outcomes.specs.Answers.{answerReport, decisionReport, writtenReport};
+ghost use Rattle.outcomes.specs.Answers.{nothing, blob, answering, answerReport, decisionReport, writtenReport};
 ghost use Rattle.outcomes.specs.Operations.{outcome, distance, within, intersects, closestPoint, shortestLine};
 ghost use Rattle.outcomes.specs.ThirdProperty.{ShortestOfPoints};
 ghost use Rattle.threed_closest.specs.Inner.{ClosestRead};
@@ -37,8 +39,10 @@ fn closest_pair(
     stop_at_zero: bool,
 ) -> ExtremePair
     requires { ⌜ o ≡ operandsOf (now a) (now b) ⌝ }
-    requires { ⌜ Ready (now a) (now b) (length (now floats1)) (length (now table1)) (length (now floats2)) (length (now table2)) ⌝ }
-    ensures { λ r. ⌜ ClosestRead (now (a .entry)) (now (b .entry)) (workspaces (now (floats1 .entry)) (now (table1 .entry)) (now (floats2 .entry)) (now (table2 .entry))) (workspaces (now (floats1 .exit)) (now (table1 .exit)) (now (floats2 .exit)) (now (table2 .exit))) r ⌝ }
+    requires { ⌜ Ready (now a) (now b)
+        (length (now floats1)) (length (now table1)) (length (now floats2)) (length (now table2)) ⌝ }
+    ensures { λ r. ⌜ ClosestRead (now (a .entry)) (now (b .entry)) (lent floats1 table1 floats2 table2)
+        (left floats1 table1 floats2 table2) r ⌝ }
 {
     let first = o.first;
     let second = o.second;
@@ -65,7 +69,8 @@ pub fn st_3d_distance(
     floats2: &mut [f64],
     table2: &mut [u32],
 ) -> Answer
-    ensures { λ r. ⌜ outcome (answerReport r) (workspaces (now (floats1 .exit)) (now (table1 .exit)) (now (floats2 .exit)) (now (table2 .exit))) [] ≡ distance (now (a .entry)) (now (b .entry)) (workspaces (now (floats1 .entry)) (now (table1 .entry)) (now (floats2 .entry)) (now (table2 .entry))) ⌝ }
+    ensures whole_outcome { λ r. ⌜ outcome (answerReport r) (left floats1 table1 floats2 table2) []
+        ≡ distance (now (a .entry)) (now (b .entry)) (lent floats1 table1 floats2 table2) ⌝ }
 {
     match operands::check(
         a,
@@ -102,7 +107,8 @@ pub fn st_3d_dwithin(
     floats2: &mut [f64],
     table2: &mut [u32],
 ) -> Decision
-    ensures { λ r. ⌜ outcome (decisionReport r) (workspaces (now (floats1 .exit)) (now (table1 .exit)) (now (floats2 .exit)) (now (table2 .exit))) [] ≡ within (now (a .entry)) (now (b .entry)) d (workspaces (now (floats1 .entry)) (now (table1 .entry)) (now (floats2 .entry)) (now (table2 .entry))) ⌝ }
+    ensures whole_outcome { λ r. ⌜ outcome (decisionReport r) (left floats1 table1 floats2 table2) []
+        ≡ within (now (a .entry)) (now (b .entry)) d (lent floats1 table1 floats2 table2) ⌝ }
 {
     if d < 0.0 {
         return Decision::Refused(Refusal { number: 1, side: 0 });
@@ -127,7 +133,8 @@ pub fn st_3d_intersects(
     floats2: &mut [f64],
     table2: &mut [u32],
 ) -> Decision
-    ensures { λ r. ⌜ outcome (decisionReport r) (workspaces (now (floats1 .exit)) (now (table1 .exit)) (now (floats2 .exit)) (now (table2 .exit))) [] ≡ intersects (now (a .entry)) (now (b .entry)) (workspaces (now (floats1 .entry)) (now (table1 .entry)) (now (floats2 .entry)) (now (table2 .entry))) ⌝ }
+    ensures whole_outcome { λ r. ⌜ outcome (decisionReport r) (left floats1 table1 floats2 table2) []
+        ≡ intersects (now (a .entry)) (now (b .entry)) (lent floats1 table1 floats2 table2) ⌝ }
 {
     match operands::check(
         a,
@@ -168,7 +175,8 @@ pub fn st_3d_closest_point(
     table2: &mut [u32],
     output: &mut [u8],
 ) -> Written
-    ensures { λ r. ⌜ outcome (writtenReport r) (workspaces (now (floats1 .exit)) (now (table1 .exit)) (now (floats2 .exit)) (now (table2 .exit))) (now (output .exit)) ≡ closestPoint (now (a .entry)) (now (b .entry)) (workspaces (now (floats1 .entry)) (now (table1 .entry)) (now (floats2 .entry)) (now (table2 .entry))) (now (output .entry)) ⌝ }
+    ensures whole_outcome { λ r. ⌜ outcome (writtenReport r) (left floats1 table1 floats2 table2) (now (output .exit))
+        ≡ closestPoint (now (a .entry)) (now (b .entry)) (lent floats1 table1 floats2 table2) (now (output .entry)) ⌝ }
 {
     match operands::check(
         a,
@@ -207,8 +215,11 @@ pub fn st_3d_shortest_line(
     table2: &mut [u32],
     output: &mut [u8],
 ) -> Written
-    ensures whole_outcome { λ r. ⌜ outcome (writtenReport r) (workspaces (now (floats1 .exit)) (now (table1 .exit)) (now (floats2 .exit)) (now (table2 .exit))) (now (output .exit)) ≡ shortestLine (now (a .entry)) (now (b .entry)) (workspaces (now (floats1 .entry)) (now (table1 .entry)) (now (floats2 .entry)) (now (table2 .entry))) (now (output .entry)) ⌝ }
-    ensures shortest_of_points { λ r. ⌜ ShortestOfPoints (now (a .entry)) (now (b .entry)) (workspaces (now (floats1 .entry)) (now (table1 .entry)) (now (floats2 .entry)) (now (table2 .entry))) (now (output .entry)) (writtenReport r) (now (output .exit)) ⌝ }
+    ensures whole_outcome { λ r. ⌜ outcome (writtenReport r) (left floats1 table1 floats2 table2) (now (output .exit))
+        ≡ shortestLine (now (a .entry)) (now (b .entry)) (lent floats1 table1 floats2 table2) (now (output .entry)) ⌝ }
+    ensures shortest_of_points { λ r. ⌜ ShortestOfPoints (answering nothing) (answering blob)
+        (now (a .entry)) (now (b .entry)) (lent floats1 table1 floats2 table2) (now (output .entry))
+        (writtenReport r) (now (output .exit)) ⌝ }
 {
     match operands::check(
         a,

@@ -1,9 +1,9 @@
--- `viskorrel::reply_to_answer` meets its contract. Assumes nothing.
+-- `replies::reply_to_answer` meets its contract. Assumes nothing.
 use Rattle.outcomes.specs.Answers.{answerReport}
-use Rattle.viskorrel.specs.Replies.{replyOf, replyOfValue}
+use Rattle.replies.specs.Replies.{replyOf, replyOfValue}
 use borrow.Author.Needs.{needs}
-use Rattle.viskorrel.proofs.reply_to_answer.Statement.{statement}
-use Rattle.viskorrel.proofs.reply_to_answer.Tie as tie
+use Rattle.replies.proofs.reply_to_answer.Statement.{statement}
+use Rattle.replies.proofs.reply_to_answer.Tie as tie
 
 enum-known-answer : tie.Need-enum-known-answer
 enum-known-answer c = search needs

@@ -1,9 +1,9 @@
--- `viskorrel::refused` meets its contract. Assumes nothing.
+-- `replies::refused` meets its contract. Assumes nothing.
 use mathlib.Core.Path.{refl}
 use lib.Ieee.{ofBits}
 use borrow.Author.Needs.{needs}
-use Rattle.viskorrel.proofs.refused.Statement.{statement}
-use Rattle.viskorrel.proofs.refused.Tie as tie
+use Rattle.replies.proofs.refused.Statement.{statement}
+use Rattle.replies.proofs.refused.Tie as tie
 
 cast-t2 : tie.Need-cast-t2
 cast-t2 c = search needs

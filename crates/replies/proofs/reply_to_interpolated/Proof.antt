@@ -1,10 +1,10 @@
--- `viskorrel::reply_to_interpolated` meets its contract. Assumes nothing.
+-- `replies::reply_to_interpolated` meets its contract. Assumes nothing.
 use lib.Ieee.{ofBits}
 use Rattle.interpolation.specs.Operation.{reportOf}
-use Rattle.viskorrel.specs.Replies.{replyOf, replyOfValue, interpolationReport}
+use Rattle.replies.specs.Replies.{replyOf, replyOfValue}
 use borrow.Author.Needs.{needs}
-use Rattle.viskorrel.proofs.reply_to_interpolated.Statement.{statement}
-use Rattle.viskorrel.proofs.reply_to_interpolated.Tie as tie
+use Rattle.replies.proofs.reply_to_interpolated.Statement.{statement}
+use Rattle.replies.proofs.reply_to_interpolated.Tie as tie
 
 enum-told : tie.Need-enum-told
 enum-told c = search needs
@@ -19,11 +19,11 @@ refused-requires : tie.Need-refused-requires
 refused-requires c κs = search needs
 
 returns : tie.Need-returns
-unfolding replyOf replyOfValue interpolationReport reportOf ofBits
+unfolding replyOf replyOfValue reportOf ofBits
 returns c = rw (c .answered .ensures, c .before .enum-told .given .1)
 
 returns-2 : tie.Need-returns-2
-unfolding replyOf replyOfValue interpolationReport reportOf
+unfolding replyOf replyOfValue reportOf
 returns-2 c = rw (c .refused .ensures, c .before .before .interpolated .given .1)
 
 pub reply-to-interpolated-spec : {M : Type 1} → statement M

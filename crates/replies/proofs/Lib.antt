@@ -1,2 +1,4 @@
 -- What an export returns, from what its operation did.
 pub mod Returned
+pub mod LineReplies
+pub mod ReadReply

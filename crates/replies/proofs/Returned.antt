@@ -5,8 +5,8 @@ use mathlib.Core.List.{List}
 use Rattle.operands.specs.Operands.{Workspaces}
 use Rattle.outcomes.specs.Answers.{Report}
 use Rattle.outcomes.specs.Operations.{Outcome, outcome}
-use Rattle.viskorrel.specs.Replies.{replyOf, returned, returnedOf}
-use Rattle.viskorrel.specs.declared.Reply.{Reply}
+use Rattle.replies.specs.Replies.{replyOf, returned, returnedOf}
+use Rattle.replies.specs.declared.Reply.{Reply}
 
 pub as-returned : (o : Outcome) (report : Report) (w : Workspaces) (output : List ℕ) (r : Reply) → outcome report w output ≡ o → r ≡ replyOf report → returned r w output ≡ returnedOf o
 unfolding returnedOf

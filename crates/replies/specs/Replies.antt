@@ -1,19 +1,25 @@
 -- What C reads of an answer: a case, the table's number and side, and a value (document 01, "What the operations say"; the cases are this interface's). Definitions only.
-use Prim.Native.Nat.{ℕ}
+use Prim.Native.Nat.{ℕ, _*_}
 use mathlib.Core.Bool.{cond}
-use mathlib.Core.List.{List, []}
+use mathlib.Core.List.{List}
+use mathlib.Core.Option.{Option}
+use lib.ListN.{length}
 use lib.Ieee.{Float}
 use Rattle.ieee754.specs.MinMax.{positiveZero}
+use Rattle.refusals.specs.Checks.{firstOf}
+use Rattle.workspace.specs.Workspace.{floatsPerCoordinate, numbersPerRun}
+use Rattle.blob.specs.Blob.{blobChecks, answerBy, floatsBy, tableBy}
+use Rattle.blob.specs.declared.BlobRead.{BlobRead}
+use Rattle.blob.specs.declared.BlobRead.the-variants as blob-read
 use Rattle.blob.specs.declared.Sizes.{Sizes}
 use Rattle.blob.specs.declared.Sizes.the-variants as sizes
-use Rattle.interpolation.specs.Operation as interpolation
 use Rattle.operands.specs.Operands.{Workspaces, workspaces}
 use Rattle.surface.specs.Patches.{Patch}
 use Rattle.surface.specs.Patches as patch
 use Rattle.outcomes.specs.Answers.{Value, number, decided, blob, nothing, Report, answering, refused}
-use Rattle.outcomes.specs.Operations.{Outcome, outcome}
-use Rattle.viskorrel.specs.declared.Reply.{Reply}
-use Rattle.viskorrel.specs.declared.PairReply.{PairReply}
+use Rattle.outcomes.specs.Operations.{Outcome}
+use Rattle.replies.specs.declared.Reply.{Reply}
+use Rattle.replies.specs.declared.PairReply.{PairReply}
 
 -- ---- a number, a decision or a blob
 
@@ -54,15 +60,6 @@ returned r w output = record { reply = r; memory = w; output = output }
 unfoldable pub returnedOf : Outcome → Returned
 returnedOf o = returned (replyOf (o .report)) (o .memory) (o .output)
 
--- interpolation's report: its point is a blob in the output
-unfoldable pub interpolationReport : interpolation.Report → Report
-interpolationReport interpolation.written = answering blob
-interpolationReport (interpolation.refused n side) = refused n side
-
--- interpolation's outcome: side 1 has its one workspace, side 2 has none
-unfoldable pub oneSided : interpolation.Outcome → Outcome
-oneSided o = outcome (interpolationReport (o .report)) (workspaces (o .floats) (o .table) [] []) (o .output)
-
 -- ---- two numbers
 
 -- a case that is no refusal, with two numbers: 0 where it has none
@@ -84,3 +81,26 @@ patchReply (patch.part start end) = pairOf 1 start end
 patchReply patch.nothing = pairOf 0 0 0
 patchReply patch.noSurface = pairOf 3 0 0
 patchReply (patch.refusing n side) = pairRefused n side
+
+-- ---- a blob read
+
+-- the floats and numbers filled: 3N, then 2R
+unfoldable pub readReply : BlobRead → PairReply
+readReply (blob-read.Read coords runs srid) = pairOf 1 (floatsPerCoordinate * coords) (numbersPerRun * runs)
+readReply (blob-read.Refused r) = pairRefused (r .number) (r .side)
+
+-- what a call that reads a blob returns and leaves: a reply, and side 1's workspace
+pub record ReturnedPair : Type 0 where
+  pub reply : PairReply
+  pub memory : Workspaces
+
+abbrev pub returnedPair : PairReply → Workspaces → ReturnedPair
+returnedPair r w = record { reply = r; memory = w }
+
+-- by the first check that holds: a refusal, with all lent memory unchanged, or the workspace filled
+unfoldable pub readBy : Option ℕ → List ℕ → Workspaces → ReturnedPair
+readBy first s w =
+    returnedPair (readReply (answerBy first s)) (workspaces (floatsBy first s (w .floats1)) (tableBy first s (w .table1)) (w .floats2) (w .table2))
+
+unfoldable pub readReturned : List ℕ → Workspaces → ReturnedPair
+readReturned s w = readBy (firstOf (blobChecks s (length (w .floats1)) (length (w .table1)))) s w

@@ -1,10 +1,10 @@
--- `viskorrel::reply_to_written` meets its contract. Assumes nothing.
+-- `replies::reply_to_written` meets its contract. Assumes nothing.
 use lib.Ieee.{ofBits}
 use Rattle.outcomes.specs.Answers.{writtenReport}
-use Rattle.viskorrel.specs.Replies.{replyOf, replyOfValue}
+use Rattle.replies.specs.Replies.{replyOf, replyOfValue}
 use borrow.Author.Needs.{needs}
-use Rattle.viskorrel.proofs.reply_to_written.Statement.{statement}
-use Rattle.viskorrel.proofs.reply_to_written.Tie as tie
+use Rattle.replies.proofs.reply_to_written.Statement.{statement}
+use Rattle.replies.proofs.reply_to_written.Tie as tie
 
 enum-told : tie.Need-enum-told
 enum-told c = search needs

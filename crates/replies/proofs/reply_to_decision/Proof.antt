@@ -1,10 +1,10 @@
--- `viskorrel::reply_to_decision` meets its contract. Assumes nothing.
+-- `replies::reply_to_decision` meets its contract. Assumes nothing.
 use lib.Ieee.{ofBits}
 use Rattle.outcomes.specs.Answers.{decisionReport}
-use Rattle.viskorrel.specs.Replies.{replyOf, replyOfValue}
+use Rattle.replies.specs.Replies.{replyOf, replyOfValue}
 use borrow.Author.Needs.{needs}
-use Rattle.viskorrel.proofs.reply_to_decision.Statement.{statement}
-use Rattle.viskorrel.proofs.reply_to_decision.Tie as tie
+use Rattle.replies.proofs.reply_to_decision.Statement.{statement}
+use Rattle.replies.proofs.reply_to_decision.Tie as tie
 
 enum-told : tie.Need-enum-told
 enum-told c = search needs

@@ -1,8 +1,8 @@
--- `viskorrel::nothing` meets its contract. Assumes nothing.
+-- `replies::nothing` meets its contract. Assumes nothing.
 use mathlib.Core.Path.{refl}
 use lib.Ieee.{ofBits}
-use Rattle.viskorrel.proofs.nothing.Statement.{statement}
-use Rattle.viskorrel.proofs.nothing.Tie as tie
+use Rattle.replies.proofs.nothing.Statement.{statement}
+use Rattle.replies.proofs.nothing.Tie as tie
 
 returns : tie.Need-returns
 unfolding ofBits
