@@ -1,4 +1,4 @@
-//! Large pairs: long lines, spheres, surveyed surfaces, groups of points.
+//! Large pairs: long lines, spheres, surveyed surfaces, groups of points, some of them chosen to be hard.
 
 use std::f64::consts::{FRAC_PI_2, TAU};
 use std::rc::Rc;
@@ -78,6 +78,39 @@ fn dents(n: usize, corner: Point, random: &mut Random) -> Geometry {
     shapes::multipoint(&(0..n).map(|_| dent()).collect::<Vec<_>>())
 }
 
+/// `dents` whose first is a point of NaN, as other software writes an empty one.
+fn dents_after_empty(n: usize, corner: Point, random: &mut Random) -> Geometry {
+    let Geometry::Collection(kind, mut members) = dents(n, corner, random) else { unreachable!("a multipoint") };
+    members[0] = shapes::point([f64::NAN; 3]);
+    Geometry::Collection(kind, members)
+}
+
+fn nan_first(n: usize, random: &mut Random) -> (Geometry, Geometry) {
+    let there = moved(ORIGIN, [150.0, 150.0, 0.0]);
+    (dents_after_empty(n, ORIGIN, random), dents_after_empty(n, there, random))
+}
+
+/// Two points as far from (0, 0, 0), though the second's sum of squares is one unit in the last place more.
+const LESS: Point = [667.867, 715.879, 560.989];
+const MORE: Point = [560.989, 667.867, 715.879];
+
+/// The sum of squares of a point as it is written.
+fn sum(p: Point) -> f64 {
+    let Geometry::Point([x, y, z, _]) = shapes::point(p) else { unreachable!("a point") };
+    x * x + y * y + z * z
+}
+
+/// `n` points at (0, 0, 0) against `first` and `n - 1` of `rest`, which are LESS and MORE or the other way round: to a
+/// best that keeps the first's sum each later pair looks as if it won, and by its root none does.
+fn equal_roots(n: usize, first: Point, rest: Point) -> (Geometry, Geometry) {
+    let [less, more] = [LESS, MORE].map(sum);
+    assert!(more.to_bits() == less.to_bits() + 1, "{less} and {more} are no neighbours in this order");
+    assert!(less.sqrt() == more.sqrt(), "the roots of {less} and {more} differ");
+    let mut points = vec![rest; n];
+    points[0] = first;
+    (shapes::multipoint(&vec![[0.0; 3]; n]), shapes::multipoint(&points))
+}
+
 /// Two routes side by side.
 fn routes(n: usize, random: &mut Random) -> (Geometry, Geometry) {
     (route(n, 0.0, random), route(n, 25.0, random))
@@ -96,7 +129,7 @@ struct Family {
 
 const MOST: usize = usize::MAX;
 
-const FAMILIES: [Family; 8] = [
+const FAMILIES: [Family; 12] = [
     Family {
         name: "corridor",
         op: Op::LongestLine,
@@ -160,6 +193,31 @@ const FAMILIES: [Family; 8] = [
         pairs: 1,
         sizes: &[(2_000, 1, MOST)],
         draw: |n, random| (dents(n, ORIGIN, random), dents(n, moved(ORIGIN, [150.0, 150.0, 0.0]), random)),
+    },
+    Family { name: "NaN first", op: Op::Distance, target: None, pairs: 1, sizes: &[(1_000, 4, MOST)], draw: nan_first },
+    Family {
+        name: "NaN first",
+        op: Op::LongestLine,
+        target: None,
+        pairs: 1,
+        sizes: &[(1_000, 4, MOST)],
+        draw: nan_first,
+    },
+    Family {
+        name: "equal roots",
+        op: Op::Distance,
+        target: None,
+        pairs: 1,
+        sizes: &[(1_000, 4, MOST)],
+        draw: |n, _| equal_roots(n, MORE, LESS),
+    },
+    Family {
+        name: "equal roots",
+        op: Op::LongestLine,
+        target: None,
+        pairs: 1,
+        sizes: &[(1_000, 4, MOST)],
+        draw: |n, _| equal_roots(n, LESS, MORE),
     },
 ];
 

@@ -13,7 +13,7 @@ use Rattle.refusals.specs.Checks.{firstOf}
 use Rattle.fields.specs.Fields.{u32At, bytesOfU32, bytesOfU64}
 use Rattle.gpb.specs.Header.{headerChecks3d, refusedOr, headerOf3d}
 use Rattle.gpb.specs.declared.Header.the-variants as gp
-use Rattle.gpb.specs.Written.{headerBytes, ordinateBytes, coordinateBytes, lineBlob}
+use Rattle.gpb.specs.Written.{lineBytes, headerBytes, ordinateBytes, coordinateBytes, lineBlob}
 use Rattle.gpb.proofs.HeaderLaws.{accepted-3d, accepted}
 use Rattle.gpb.proofs.ReadBack.{LineFields, line-header-back, line-fields-back, line-length, line-taken}
 use Rattle.coords.specs.Walk.{Coordinate, Geometry, geometry, line, ok, mapParsed, zOf, mOf, headerOfType, headerAt, strideOf, ordinateIf, coordinateAt, coordinatesFrom, coordinatesAt, lineAt, classOf, contentOf, geometryFrom, walkOf, allLevels}
@@ -31,7 +31,7 @@ lineGeometry c d = geometry 2 true false (line (c ∷ d ∷ []))
 -- header and walk accept a blob, which ends at byte 65 and gives no run but one line run, of c and d
 pub record ReadsAsLine (s : List ℕ) (c d : Coordinate) : Type 0 where
   pub header : firstOf (headerChecks3d s) ≡ none
-  pub walk : walkOfBlob s ≡ ok (lineGeometry c d) 65
+  pub walk : walkOfBlob s ≡ ok (lineGeometry c d) lineBytes
   pub only-run : runsOf (lineGeometry c d) ≡ run 2 (c ∷ d ∷ []) ∷ []
 
 -- a header that is found refuses nothing
@@ -41,10 +41,10 @@ found-none none s at code srid h = refl
 found-none (some k) s at code srid h = let z : _≡_ {A = ℕ} 0 1 = cc in absurd (omega arith)
 
 -- the walk at byte 8, by the bytes that it reads: little-endian, type 1002, count 2, six patterns
-walk-by-fields : (levels : ℕ) (s : List ℕ) (ax ay az bx by bz : ℕ) → 65 ≤ length s → getD s 8 0 ≡ 1 → u32At true s 9 ≡ 1002 → LineFields s ax ay az bx by bz → walkOf (suc levels) s 8 ≡ ok (lineGeometry (coordinateOf ax ay az) (coordinateOf bx by bz)) 65
+walk-by-fields : (levels : ℕ) (s : List ℕ) (ax ay az bx by bz : ℕ) → lineBytes ≤ length s → getD s 8 0 ≡ 1 → u32At true s 9 ≡ 1002 → LineFields s ax ay az bx by bz → walkOf (suc levels) s 8 ≡ ok (lineGeometry (coordinateOf ax ay az) (coordinateOf bx by bz)) lineBytes
 unfolding walkOf geometryFrom headerAt headerOfType zOf mOf classOf contentOf mapParsed lineAt coordinatesAt coordinatesFrom coordinateAt strideOf ordinateIf
 walk-by-fields levels s ax ay az bx by bz h order type f =
-    simp (le-ltb (length s) 13 (omega arith), order, type, le-ltb (length s) 17 (omega arith), f .count, le-ltb (length s) 65 h, f .first-x, f .first-y, f .first-z, f .second-x, f .second-y, f .second-z)
+    simp (le-ltb (length s) 13 (omega arith), order, type, le-ltb (length s) 17 (omega arith), f .count, le-ltb (length s) lineBytes h, f .first-x, f .first-y, f .first-z, f .second-x, f .second-y, f .second-z)
 
 one-run : (c d : Coordinate) → runsOf (lineGeometry c d) ≡ run 2 (c ∷ d ∷ []) ∷ []
 unfolding runsOf contentRuns nonEmptyRun
@@ -81,5 +81,5 @@ module _ (srid : ℕ) (ax ay az bx by bz : Float) where
         }
 
     -- the first 65 bytes of what is written, any bytes after them
-    pub taken-line-reads-back : (rest : List ℕ) → ReadsAsLine (take 65 (lineBlob srid ax ay az bx by bz ++ rest)) (coordinateOf (toBits binary64 ax) (toBits binary64 ay) (toBits binary64 az)) (coordinateOf (toBits binary64 bx) (toBits binary64 by) (toBits binary64 bz))
+    pub taken-line-reads-back : (rest : List ℕ) → ReadsAsLine (take lineBytes (lineBlob srid ax ay az bx by bz ++ rest)) (coordinateOf (toBits binary64 ax) (toBits binary64 ay) (toBits binary64 az)) (coordinateOf (toBits binary64 bx) (toBits binary64 by) (toBits binary64 bz))
     taken-line-reads-back rest = rw (line-taken srid ax ay az bx by bz rest) line-reads-back

@@ -16,7 +16,7 @@ use Rattle.fields.specs.Fields.{u32At, u64At, bytesOfU32, bytesOfU64}
 use Rattle.fields.proofs.ReadBack.{eight-bytes-back}
 use Rattle.gpb.specs.Header.{headerChecks3d, headerOf3d}
 use Rattle.gpb.specs.declared.Header.the-variants as gp
-use Rattle.gpb.specs.Written.{headerBytes, ordinateBytes, coordinateBytes, pointBlob}
+use Rattle.gpb.specs.Written.{pointBytes, headerBytes, ordinateBytes, coordinateBytes, pointBlob}
 use Rattle.gpb.proofs.HeaderLaws.{accepted-3d, accepted}
 use Rattle.gpb.proofs.ReadBack.{point-header-back}
 use Rattle.coords.specs.Walk.{Coordinate, Geometry, geometry, point, ok, mapParsed, zOf, mOf, headerOfType, headerAt, strideOf, ordinateIf, coordinateAt, pointAt, classOf, contentOf, geometryFrom, walkOf, allLevels}
@@ -31,13 +31,13 @@ pointGeometry c = geometry 1 true false (point c)
 -- header and walk accept a blob, which ends at byte 37 and gives no run but one point run, of c
 pub record ReadsAsPoint (s : List ℕ) (c : Coordinate) : Type 0 where
   pub header : firstOf (headerChecks3d s) ≡ none
-  pub walk : walkOfBlob s ≡ ok (pointGeometry c) 37
+  pub walk : walkOfBlob s ≡ ok (pointGeometry c) pointBytes
   pub only-run : runsOf (pointGeometry c) ≡ run 1 (c ∷ []) ∷ []
 
 -- the walk at byte 8, by the bytes that it reads: little-endian, type 1001, three patterns
-walk-by-fields : (levels : ℕ) (s : List ℕ) (x y z : ℕ) → 37 ≤ length s → getD s 8 0 ≡ 1 → u32At true s 9 ≡ 1001 → u64At true s 13 ≡ x → u64At true s 21 ≡ y → u64At true s 29 ≡ z → walkOf (suc levels) s 8 ≡ ok (pointGeometry (coordinateOf x y z)) 37
+walk-by-fields : (levels : ℕ) (s : List ℕ) (x y z : ℕ) → pointBytes ≤ length s → getD s 8 0 ≡ 1 → u32At true s 9 ≡ 1001 → u64At true s 13 ≡ x → u64At true s 21 ≡ y → u64At true s 29 ≡ z → walkOf (suc levels) s 8 ≡ ok (pointGeometry (coordinateOf x y z)) pointBytes
 unfolding walkOf geometryFrom headerAt headerOfType zOf mOf classOf contentOf mapParsed pointAt coordinateAt strideOf ordinateIf
-walk-by-fields levels s x y z h order type p q r = simp (le-ltb (length s) 13 (omega arith), order, type, le-ltb (length s) 37 h, p, q, r)
+walk-by-fields levels s x y z h order type p q r = simp (le-ltb (length s) 13 (omega arith), order, type, le-ltb (length s) pointBytes h, p, q, r)
 
 one-run : (c : Coordinate) → runsOf (pointGeometry c) ≡ run 1 (c ∷ []) ∷ []
 unfolding runsOf contentRuns
@@ -47,7 +47,7 @@ module _ (srid : ℕ) (x y z : Float) where
   abbrev blob : List ℕ
   blob = pointBlob srid x y z
 
-  blob-length : length blob ≡ 37
+  blob-length : length blob ≡ pointBytes
   unfolding pointBlob headerBytes coordinateBytes ordinateBytes bytesOfU64 bytesOfU32
   blob-length = refl
 
@@ -55,7 +55,7 @@ module _ (srid : ℕ) (x y z : Float) where
     header-is : headerOf3d blob ≡ gp.Found 8 1001 srid
     header-is = subst (λ (s : List ℕ). headerOf3d s ≡ gp.Found 8 1001 srid) (append-nil blob) (point-header-back srid x y z [] small)
 
-    walk-is : walkOf allLevels blob 8 ≡ ok (pointGeometry (coordinateOf (toBits binary64 x) (toBits binary64 y) (toBits binary64 z))) 37
+    walk-is : walkOf allLevels blob 8 ≡ ok (pointGeometry (coordinateOf (toBits binary64 x) (toBits binary64 y) (toBits binary64 z))) pointBytes
     unfolding u64At u32At pointBlob headerBytes coordinateBytes ordinateBytes bytesOfU64 bytesOfU32
     walk-is =
         walk-by-fields 32 blob _ _ _ (lit≤ tt) refl refl (eight-bytes-back (toBits binary64 x) (toBits-lt binary64 x fx)) (eight-bytes-back (toBits binary64 y) (toBits-lt binary64 y fy)) (eight-bytes-back (toBits binary64 z) (toBits-lt binary64 z fz))
@@ -72,5 +72,5 @@ module _ (srid : ℕ) (x y z : Float) where
         }
 
     -- the first 37 bytes of what is written, any bytes after them
-    pub taken-point-reads-back : (rest : List ℕ) → ReadsAsPoint (take 37 (pointBlob srid x y z ++ rest)) (coordinateOf (toBits binary64 x) (toBits binary64 y) (toBits binary64 z))
-    taken-point-reads-back rest = rw (take-at blob rest 37 blob-length) point-reads-back
+    pub taken-point-reads-back : (rest : List ℕ) → ReadsAsPoint (take pointBytes (pointBlob srid x y z ++ rest)) (coordinateOf (toBits binary64 x) (toBits binary64 y) (toBits binary64 z))
+    taken-point-reads-back rest = rw (take-at blob rest pointBytes blob-length) point-reads-back

@@ -1,19 +1,62 @@
--- What the check of a blob's bytes answers: for an inner contract only. Definitions only.
+-- What the checks of one side answer: for the contracts of functions that other crates build on; no operation's contract speaks of these. Definitions only.
 use Prim.Native.Nat.{ℕ}
+use mathlib.Core.Bool.{Bool, true, false}
 use mathlib.Core.List.{List}
 use mathlib.Core.Option.{Option, none, some}
 use lib.ListN.{length}
-use Rattle.refusals.specs.Checks.{firstOf}
+use Rattle.refusals.specs.declared.Refusal.{Refusal}
 use Rattle.gpb.specs.Header.{geometryStart, sridOf}
+use Rattle.coords.specs.Walk.{Geometry, Parsed, ok, refused}
 use Rattle.coords.specs.Parts.{coordinateCount}
-use Rattle.blob.specs.Blob.{runsOfBlob, bytesChecks, refusal}
-use Rattle.blob.specs.declared.Checked.{Checked}
-use Rattle.blob.specs.declared.Checked.the-variants as checked
+use Rattle.blob.specs.Blob.{walkOfBlob, runsOfBlob}
+use Rattle.blob.specs.declared.TopHeader.{TopHeader}
+use Rattle.blob.specs.declared.HeaderRead.{HeaderRead}
+use Rattle.blob.specs.declared.HeaderRead.the-variants as header-read
+use Rattle.blob.specs.declared.Operand.{Operand}
+use Rattle.blob.specs.declared.OperandRead.{OperandRead}
+use Rattle.blob.specs.declared.OperandRead.the-variants as operand-read
+use Rattle.blob.specs.declared.RoomChecked.{RoomChecked}
+use Rattle.blob.specs.declared.RoomChecked.the-variants as room-checked
 
--- a refusal, or where the geometry starts, N, R and the SRID's bits
-unfoldable pub checkedBy : Option ℕ → List ℕ → Checked
-checkedBy (some k) s = checked.Refused (refusal k)
-checkedBy none s = checked.Accepted (geometryStart s) (coordinateCount (runsOfBlob s)) (length (runsOfBlob s)) (sridOf s)
+-- a number, given of a side
+abbrev pub refusalOf : ℕ → ℕ → Refusal
+refusalOf side number = record { number = number; side = side }
 
-unfoldable pub checkedOf : List ℕ → Checked
-checkedOf s = checkedBy (firstOf (bytesChecks s)) s
+-- ---- the header
+
+abbrev pub topHeaderOf : List ℕ → TopHeader
+topHeaderOf s = record { at = geometryStart s; srid = sridOf s }
+
+-- by the first of the header's checks that holds
+unfoldable pub headerBy : Option ℕ → ℕ → List ℕ → HeaderRead
+headerBy (some k) side s = header-read.Refused (refusalOf side k)
+headerBy none side s = header-read.Found (topHeaderOf s)
+
+-- ---- the walk
+
+-- the position after the geometry that was read
+unfoldable pub endOf : Parsed Geometry → ℕ
+endOf (ok g end) = end
+endOf (refused k) = 0
+
+abbrev pub operandOf : List ℕ → Operand
+operandOf s =
+    record {
+      at = geometryStart s;
+      end = endOf (walkOfBlob s);
+      coords = coordinateCount (runsOfBlob s);
+      runs = length (runsOfBlob s);
+      srid = sridOf s;
+    }
+
+-- by the first check that holds: the walk's, after the header's where they are looked at too
+unfoldable pub operandBy : Option ℕ → ℕ → List ℕ → OperandRead
+operandBy (some k) side s = operand-read.Refused (refusalOf side k)
+operandBy none side s = operand-read.Read (operandOf s)
+
+-- ---- the room
+
+-- by whether lent memory is too small
+unfoldable pub roomBy : Bool → ℕ → RoomChecked
+roomBy true side = room-checked.Refused (refusalOf side 15)
+roomBy false side = room-checked.Enough

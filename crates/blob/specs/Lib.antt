@@ -1,2 +1,3 @@
 pub mod Blob
 pub mod Inner
+pub mod Ignored

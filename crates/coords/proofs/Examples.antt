@@ -5,7 +5,7 @@ use mathlib.Core.Bool.{true, false}
 use Prim.Native.Nat.{ℕ, zero, suc}
 use lib.ListN.{replicate}
 use Rattle.fields.specs.Fields.{u32At, u64At}
-use Rattle.coords.specs.Walk.{Geometry, geometry, point, line, members, none, more, ok, refused, mapParsed, zOf, mOf, headerOfType, headerAt, strideOf, ordinateIf, mOffset, coordinateAt, coordinatesFrom, pointAt, coordinatesAt, lineAt, times, listAt, classOf, contentOf, geometryFrom, walkOf, allLevels}
+use Rattle.coords.specs.Walk.{Geometry, geometry, point, line, members, noMembers, oneMore, ok, refused, mapParsed, zOf, mOf, headerOfType, headerAt, strideOf, ordinateIf, mOffset, coordinateAt, coordinatesFrom, pointAt, coordinatesAt, lineAt, times, listAt, classOf, contentOf, geometryFrom, walkOf, allLevels}
 
 -- n collections of one member, big-endian, one in the other, and in the last an empty line
 unfoldable pub nested : ℕ → List ℕ
@@ -14,7 +14,7 @@ nested (suc n) = 0 ∷ 0 ∷ 0 ∷ 3 ∷ 0xef ∷ 0 ∷ 0 ∷ 0 ∷ 1 ∷ nested
 
 unfoldable pub nested-tree : ℕ → Geometry
 nested-tree zero = geometry 2 false false (line [])
-nested-tree (suc n) = geometry 7 true false (members (more (nested-tree n) none))
+nested-tree (suc n) = geometry 7 true false (members (oneMore (nested-tree n) noMembers))
 
 pub level-32-is-read : walkOf allLevels (nested 32) 0 ≡ ok (nested-tree 32) 297
 unfolding nested nested-tree u32At mapParsed zOf mOf headerOfType headerAt strideOf coordinatesFrom coordinatesAt lineAt times listAt classOf contentOf geometryFrom walkOf

@@ -2,38 +2,31 @@
 use mathlib.Core.Path.{_≡_, refl, ap, subst, _∙_}
 use mathlib.Core.Bool.{Bool, true, false, cond}
 use mathlib.Core.List.{List}
-use Prim.Native.Nat.{ℕ, zero, suc, _+_, _<_, _≤_}
+use Prim.Native.Nat.{ℕ, zero, suc, _+_, _<_, _≤_, max}
+use native.Mathlib.Nat.{max-le, le-max-left, le-max-right}
 use native.Mathlib.Omega.{arith}
 use lib.Dec.{ltb}
 use lib.ListN.{length}
-use borrow.Author.Tests.{ltb-true, ltb-false}
 use Rattle.fields.specs.Fields.{u32At}
 use Rattle.coords.specs.declared.WkbHeader.{WkbHeader}
 use Rattle.coords.specs.declared.ParsedHeader.{ParsedHeader}
 use Rattle.coords.specs.declared.ParsedHeader.the-variants as header
-use Rattle.coords.specs.Walk.{Geometry, geometry, Content, point, line, rings, members, Members, none, more, Parsed, ok, refused, mapParsed, consParsed, andThen, times, listAt, pointAt, lineAt, ringsAt, membersAt, Class, pointClass, lineClass, polygonClass, collectionClass, unknownClass, classOf, contentOf, headerAt, geometryFrom, walkOf}
-use Rattle.coords.specs.Parts.{max, deepestLevel, contentLevel, membersLevel}
+use Rattle.coords.specs.Walk.{Geometry, geometry, Content, point, line, rings, members, Members, noMembers, oneMore, Parsed, ok, refused, mapParsed, consParsed, andThen, times, listAt, pointAt, lineAt, ringsAt, membersAt, Class, pointClass, lineClass, polygonClass, collectionClass, unknownClass, classOf, contentOf, headerAt, geometryFrom, walkOf}
 
-max-le : (a b n : ℕ) → a ≤ n → b ≤ n → max a b ≤ n
-max-le a b n h g = go (ltb a b)
-  where
-    go : (t : Bool) → cond t b a ≤ n
-    go true = g
-    go false = h
+unfoldable mutual
+  -- the deepest level below a geometry, itself at level 0
+  pub deepestLevel : Geometry → ℕ
+  deepestLevel (geometry kind z m content) = contentLevel content
 
-pub max-left : (a b : ℕ) → a ≤ max a b
-max-left a b = go (ltb a b) refl
-  where
-    go : (t : Bool) → ltb a b ≡ t → a ≤ cond t b a
-    go true e = omega (arith, ltb-true a b e)
-    go false e = omega arith
+  pub contentLevel : Content → ℕ
+  contentLevel (point c) = 0
+  contentLevel (line cs) = 0
+  contentLevel (rings rs) = 0
+  contentLevel (members gs) = membersLevel gs
 
-pub max-right : (a b : ℕ) → b ≤ max a b
-max-right a b = go (ltb a b) refl
-  where
-    go : (t : Bool) → ltb a b ≡ t → b ≤ cond t b a
-    go true e = omega arith
-    go false e = ltb-false a b e
+  pub membersLevel : Members → ℕ
+  membersLevel noMembers = 0
+  membersLevel (oneMore g gs) = max (suc (deepestLevel g)) (membersLevel gs)
 
 -- what r says once `level` of what was read is at most n; w reads the same then
 Reads : {A : Type 0} → (A → ℕ) → ℕ → Parsed A → Parsed A → Type 0
@@ -49,18 +42,18 @@ geometryLevel : Geometry → ℕ
 geometryLevel g = suc (deepestLevel g)
 
 module _ (f : ℕ → Parsed Geometry) (n : ℕ) (each : (at : ℕ) → AtMost geometryLevel n (f at)) where
-  members-at-most : (count at : ℕ) → AtMost membersLevel n (times more none f count at)
+  members-at-most : (count at : ℕ) → AtMost membersLevel n (times oneMore noMembers f count at)
   unfolding times AtMost membersLevel geometryLevel
   members-at-most zero at = omega arith
   members-at-most (suc count) at = go (members-at-most count) (f at) (each at)
     where
-      join : (g : Geometry) (r : Parsed Members) → suc (deepestLevel g) ≤ n → AtMost membersLevel n r → AtMost membersLevel n (consParsed more g r)
+      join : (g : Geometry) (r : Parsed Members) → suc (deepestLevel g) ≤ n → AtMost membersLevel n r → AtMost membersLevel n (consParsed oneMore g r)
       join g (refused k) h i = tt
-      join g (ok gs end) h i = max-le (suc (deepestLevel g)) (membersLevel gs) n h i
+      join g (ok gs end) h i = max-le h i
 
-      go : ((i : ℕ) → AtMost membersLevel n (times more none f count i)) → (r : Parsed Geometry) → AtMost geometryLevel n r → AtMost membersLevel n (andThen more r (times more none f count))
+      go : ((i : ℕ) → AtMost membersLevel n (times oneMore noMembers f count i)) → (r : Parsed Geometry) → AtMost geometryLevel n r → AtMost membersLevel n (andThen oneMore r (times oneMore noMembers f count))
       go rest (refused k) h = tt
-      go rest (ok g next) h = join g (times more none f count next) h (rest next)
+      go rest (ok g next) h = join g (times oneMore noMembers f count next) h (rest next)
 
 at-most-needed : {A : Type 0} (level : A → ℕ) (n : ℕ) (b : Bool) (r : Parsed A) → AtMost level n r → AtMost level n (cond b (refused 9) r)
 unfolding AtMost
@@ -84,7 +77,7 @@ content-at-most lineClass f n each s h = flat-content n line (λ a. refl) (lineA
 content-at-most polygonClass f n each s h = flat-content n rings (λ a. refl) (ringsAt h s (h .body))
 content-at-most collectionClass f n each s h =
     at-most-map membersLevel contentLevel n n members (λ a i. i) (membersAt f (h .little) s (h .body))
-    (at-most-needed membersLevel n (ltb (length s) (h .body + 4)) (times more none f (u32At (h .little) s (h .body)) (h .body + 4)) (members-at-most f n each (u32At (h .little) s (h .body)) (h .body + 4)))
+    (at-most-needed membersLevel n (ltb (length s) (h .body + 4)) (times oneMore noMembers f (u32At (h .little) s (h .body)) (h .body + 4)) (members-at-most f n each (u32At (h .little) s (h .body)) (h .body + 4)))
 content-at-most unknownClass f n each s h = tt
 
 geometry-at-most : (f : ℕ → Parsed Geometry) (n : ℕ) (each : (at : ℕ) → AtMost geometryLevel n (f at)) (s : List ℕ) (r : ParsedHeader) → AtMost geometryLevel (suc n) (geometryFrom f s r)
@@ -104,21 +97,21 @@ unfolding AtMost geometryLevel
 deepest-below levels s at g end e = let h : suc (deepestLevel g) ≤ levels = subst (AtMost geometryLevel levels) e (walk-at-most levels s at) in omega arith
 
 module _ (f f′ : ℕ → Parsed Geometry) (n : ℕ) (each : (at : ℕ) → Reads geometryLevel n (f at) (f′ at)) where
-  members-read : (count at : ℕ) → Reads membersLevel n (times more none f count at) (times more none f′ count at)
+  members-read : (count at : ℕ) → Reads membersLevel n (times oneMore noMembers f count at) (times oneMore noMembers f′ count at)
   unfolding times Reads membersLevel geometryLevel
   members-read zero at = λ h. refl
   members-read (suc count) at = go (members-read count) (f at) (each at)
     where
-      join : (g : Geometry) (next : ℕ) (r : Parsed Members) → Reads geometryLevel n (ok g next) (f′ at) → Reads membersLevel n r (times more none f′ count next) → Reads membersLevel n (consParsed more g r) (andThen more (f′ at) (times more none f′ count))
+      join : (g : Geometry) (next : ℕ) (r : Parsed Members) → Reads geometryLevel n (ok g next) (f′ at) → Reads membersLevel n r (times oneMore noMembers f′ count next) → Reads membersLevel n (consParsed oneMore g r) (andThen oneMore (f′ at) (times oneMore noMembers f′ count))
       join g next (refused k) h i = tt
       join g next (ok gs end) h i = λ l.
-          let a : suc (deepestLevel g) ≤ n = omega (arith, max-left (suc (deepestLevel g)) (membersLevel gs), l) in
-          let b : membersLevel gs ≤ n = omega (arith, max-right (suc (deepestLevel g)) (membersLevel gs), l) in
-          ap (λ (r : Parsed Geometry). andThen more r (times more none f′ count)) (h a) ∙ ap (consParsed more g) (i b)
+          let a : suc (deepestLevel g) ≤ n = omega (arith, le-max-left (suc (deepestLevel g)) (membersLevel gs), l) in
+          let b : membersLevel gs ≤ n = omega (arith, le-max-right (suc (deepestLevel g)) (membersLevel gs), l) in
+          ap (λ (r : Parsed Geometry). andThen oneMore r (times oneMore noMembers f′ count)) (h a) ∙ ap (consParsed oneMore g) (i b)
 
-      go : ((i : ℕ) → Reads membersLevel n (times more none f count i) (times more none f′ count i)) → (r : Parsed Geometry) → Reads geometryLevel n r (f′ at) → Reads membersLevel n (andThen more r (times more none f count)) (andThen more (f′ at) (times more none f′ count))
+      go : ((i : ℕ) → Reads membersLevel n (times oneMore noMembers f count i) (times oneMore noMembers f′ count i)) → (r : Parsed Geometry) → Reads geometryLevel n r (f′ at) → Reads membersLevel n (andThen oneMore r (times oneMore noMembers f count)) (andThen oneMore (f′ at) (times oneMore noMembers f′ count))
       go rest (refused k) h = tt
-      go rest (ok g next) h = join g next (times more none f count next) h (rest next)
+      go rest (ok g next) h = join g next (times oneMore noMembers f count next) h (rest next)
 
 reads-needed : {A : Type 0} (level : A → ℕ) (n : ℕ) (b : Bool) (r w : Parsed A) → Reads level n r w → Reads level n (cond b (refused 9) r) (cond b (refused 9) w)
 unfolding Reads
@@ -142,7 +135,7 @@ content-reads lineClass f f′ n each s h = reads-same contentLevel n (mapParsed
 content-reads polygonClass f f′ n each s h = reads-same contentLevel n (mapParsed rings (ringsAt h s (h .body)))
 content-reads collectionClass f f′ n each s h =
     reads-map membersLevel contentLevel n n members (λ a i. i) (membersAt f (h .little) s (h .body)) (membersAt f′ (h .little) s (h .body))
-    (reads-needed membersLevel n (ltb (length s) (h .body + 4)) (times more none f (u32At (h .little) s (h .body)) (h .body + 4)) (times more none f′ (u32At (h .little) s (h .body)) (h .body + 4)) (members-read f f′ n each (u32At (h .little) s (h .body)) (h .body + 4)))
+    (reads-needed membersLevel n (ltb (length s) (h .body + 4)) (times oneMore noMembers f (u32At (h .little) s (h .body)) (h .body + 4)) (times oneMore noMembers f′ (u32At (h .little) s (h .body)) (h .body + 4)) (members-read f f′ n each (u32At (h .little) s (h .body)) (h .body + 4)))
 content-reads unknownClass f f′ n each s h = reads-same contentLevel n (refused 11)
 
 geometry-reads : (f f′ : ℕ → Parsed Geometry) (n : ℕ) (each : (at : ℕ) → Reads geometryLevel n (f at) (f′ at)) (s : List ℕ) (r : ParsedHeader) → Reads geometryLevel (suc n) (geometryFrom f s r) (geometryFrom f′ s r)

@@ -13,7 +13,8 @@ use Rattle.coords.proofs.Laws.{wide}
 use Rattle.coords.specs.declared.WkbHeader.{WkbHeader}
 use Rattle.coords.specs.declared.ParsedHeader.{ParsedHeader}
 use Rattle.coords.specs.declared.ParsedHeader.the-variants as header
-use Rattle.coords.specs.Walk.{Coordinate, Geometry, geometry, Content, point, line, rings, members, none, more, Parsed, ok, refused, mapParsed, strideOf, stride, ordinateIf, mOffset, coordinateAt, coordinatesFrom, pointAt, coordinatesAt, lineAt, consParsed, andThen, times, listAt, ringsAt, membersAt, Class, pointClass, lineClass, polygonClass, collectionClass, unknownClass, classOf, contentOf, hasFlag, headerOf, headerOfType, headerAt, geometryFrom, walkOf}
+use Rattle.fields.specs.TypeCode.{hasFlag, sridFlag}
+use Rattle.coords.specs.Walk.{Coordinate, Geometry, geometry, Content, point, line, rings, members, noMembers, oneMore, Parsed, ok, refused, mapParsed, strideOf, stride, ordinateIf, mOffset, coordinateAt, coordinatesFrom, pointAt, coordinatesAt, lineAt, consParsed, andThen, times, listAt, ringsAt, membersAt, Class, pointClass, lineClass, polygonClass, collectionClass, unknownClass, classOf, contentOf, headerOf, headerOfType, headerAt, geometryFrom, walkOf}
 
 -- n bytes at a of s stand at a′ of s′ too
 module _ (s s′ : List ℕ) (a a′ n : ℕ) (same : (i : ℕ) → i < n → getD s (a + i) 0 ≡ getD s′ (a′ + i) 0) (room : a′ + n ≤ length s′) where
@@ -155,7 +156,7 @@ module _ (s s′ : List ℕ) (a a′ n : ℕ) (same : (i : ℕ) → i < n → ge
   content-carries polygonClass f f′ each h g =
       map-carries rings (h .body) (ringsAt h s (h .body)) (ringsAt (moved h) s′ (there (h .body))) (list-carries _∷_ [] (lineAt h s) (lineAt (moved h) s′) (line-carries h) (h .little) (h .body) g)
   content-carries collectionClass f f′ each h g =
-      map-carries members (h .body) (membersAt f (h .little) s (h .body)) (membersAt f′ (h .little) s′ (there (h .body))) (list-carries more none f f′ each (h .little) (h .body) g)
+      map-carries members (h .body) (membersAt f (h .little) s (h .body)) (membersAt f′ (h .little) s′ (there (h .body))) (list-carries oneMore noMembers f f′ each (h .little) (h .body) g)
   content-carries unknownClass f f′ each h g = tt
 
   HeaderCarries : ℕ → ParsedHeader → ParsedHeader → Type 0
@@ -169,7 +170,7 @@ module _ (s s′ : List ℕ) (a a′ n : ℕ) (same : (i : ℕ) → i < n → ge
 
   header-carries : (p : ℕ) → a ≤ p → HeaderCarries p (headerAt s p) (headerAt s′ (there p))
   unfolding headerAt headerOfType HeaderCarries
-  header-carries p h = go (ltb (length s) (p + 5)) (ltb 1 (getD s p 0)) (hasFlag 0x20000000 (u32At (eqb (getD s p 0) 1) s (p + 1))) (ltb (length s) (p + 9)) refl refl
+  header-carries p h = go (ltb (length s) (p + 5)) (ltb 1 (getD s p 0)) (hasFlag sridFlag (u32At (eqb (getD s p 0) 1) s (p + 1))) (ltb (length s) (p + 9)) refl refl
     where
       little : Bool
       little = eqb (getD s p 0) 1
@@ -177,7 +178,7 @@ module _ (s s′ : List ℕ) (a a′ n : ℕ) (same : (i : ℕ) → i < n → ge
       code : ℕ
       code = u32At (eqb (getD s p 0) 1) s (p + 1)
 
-      go : (b c d e : Bool) → ltb 1 (getD s p 0) ≡ c → hasFlag 0x20000000 (u32At (eqb (getD s p 0) 1) s (p + 1)) ≡ d → HeaderCarries p (cond b (header.Refused 9) (cond c (header.Refused 10) (cond d (cond e (header.Refused 9) (header.Read (headerOf (eqb (getD s p 0) 1) (u32At (eqb (getD s p 0) 1) s (p + 1)) (p + 9)))) (header.Read (headerOf (eqb (getD s p 0) 1) (u32At (eqb (getD s p 0) 1) s (p + 1)) (p + 5)))))) (headerAt s′ (there p))
+      go : (b c d e : Bool) → ltb 1 (getD s p 0) ≡ c → hasFlag sridFlag (u32At (eqb (getD s p 0) 1) s (p + 1)) ≡ d → HeaderCarries p (cond b (header.Refused 9) (cond c (header.Refused 10) (cond d (cond e (header.Refused 9) (header.Read (headerOf (eqb (getD s p 0) 1) (u32At (eqb (getD s p 0) 1) s (p + 1)) (p + 9)))) (header.Read (headerOf (eqb (getD s p 0) 1) (u32At (eqb (getD s p 0) 1) s (p + 1)) (p + 5)))))) (headerAt s′ (there p))
       go true c d e p2 p3 = tt
       go false true d e p2 p3 = tt
       go false false true true p2 p3 = tt

@@ -14,8 +14,8 @@ use Rattle.fields.specs.Fields.{u32At}
 use Rattle.coords.specs.declared.WkbHeader.{WkbHeader}
 use Rattle.coords.specs.declared.ParsedHeader.{ParsedHeader}
 use Rattle.coords.specs.declared.ParsedHeader.the-variants as header
-use Rattle.coords.specs.Walk.{Geometry, geometry, point, line, rings, members, Parsed, ok, refused, mapParsed, consParsed, andThen, times, listAt, stride, coordinateAt, coordinatesFrom, pointAt, coordinatesAt, lineAt, ringsAt, membersAt, Class, pointClass, lineClass, polygonClass, collectionClass, unknownClass, classOf, contentOf, hasFlag, headerOf, headerOfType, headerAt, geometryFrom, walkOf, allLevels}
-use Rattle.coords.specs.Walk as walk
+use Rattle.fields.specs.TypeCode.{hasFlag, sridFlag}
+use Rattle.coords.specs.Walk.{Geometry, geometry, point, line, rings, members, noMembers, oneMore, Parsed, ok, refused, mapParsed, consParsed, andThen, times, listAt, stride, coordinateAt, coordinatesFrom, pointAt, coordinatesAt, lineAt, ringsAt, membersAt, Class, pointClass, lineClass, polygonClass, collectionClass, unknownClass, classOf, contentOf, headerOf, headerOfType, headerAt, geometryFrom, walkOf, allLevels}
 use Rattle.coords.specs.Refusals.{refusedWith, isAccepted, walkChecks}
 
 -- what holds of the number of every refusal
@@ -88,7 +88,7 @@ module _ (P : ℕ → Type 0) (nine : P 9) where
   numbered-header ten s at =
       let little = eqb (getD s at 0) 1 in
       let code = u32At little s (at + 1) in
-      header-tests ten (ltb (length s) (at + 5)) (ltb 1 (getD s at 0)) (hasFlag 0x20000000 code) (ltb (length s) (at + 9)) (headerOf little code (at + 9)) (headerOf little code (at + 5))
+      header-tests ten (ltb (length s) (at + 5)) (ltb 1 (getD s at 0)) (hasFlag sridFlag code) (ltb (length s) (at + 9)) (headerOf little code (at + 9)) (headerOf little code (at + 5))
 
 -- a refusal of the walk is one of 9 to 12
 abbrev pub WalkNumber : ℕ → Type 0
@@ -102,7 +102,7 @@ unfolding contentOf Numbered
 numbered-content pointClass f each s h = numbered-map WalkNumber point (pointAt h s (h .body)) (numbered-point WalkNumber nine h s (h .body))
 numbered-content lineClass f each s h = numbered-map WalkNumber line (lineAt h s (h .body)) (numbered-line WalkNumber nine h s (h .body))
 numbered-content polygonClass f each s h = numbered-map WalkNumber rings (ringsAt h s (h .body)) (numbered-list WalkNumber nine _∷_ [] (lineAt h s) (numbered-line WalkNumber nine h s) (h .little) s (h .body))
-numbered-content collectionClass f each s h = numbered-map WalkNumber members (membersAt f (h .little) s (h .body)) (numbered-list WalkNumber nine walk.more walk.none f each (h .little) s (h .body))
+numbered-content collectionClass f each s h = numbered-map WalkNumber members (membersAt f (h .little) s (h .body)) (numbered-list WalkNumber nine oneMore noMembers f each (h .little) s (h .body))
 numbered-content unknownClass f each s h = (omega arith, omega arith)
 
 numbered-geometry : (f : ℕ → Parsed Geometry) (each : (at : ℕ) → Numbered WalkNumber (f at)) (s : List ℕ) (r : ParsedHeader) → HeaderNumbered WalkNumber r → Numbered WalkNumber (geometryFrom f s r)

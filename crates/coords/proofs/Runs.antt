@@ -8,7 +8,7 @@ use lib.Dec.{ltb}
 use lib.ListN.{length}
 use Rattle.fields.specs.Fields.{u32At}
 use Rattle.coords.specs.declared.WkbHeader.{WkbHeader}
-use Rattle.coords.specs.Walk.{Coordinate, geometry, Content, point, line, rings, members, none, more, Parsed, ok, refused, mapParsed, stride, coordinateAt, coordinatesFrom, pointAt, coordinatesAt, lineAt, consParsed, andThen, times, listAt, ringsAt, membersAt, Class, pointClass, lineClass, polygonClass, collectionClass, unknownClass, contentOf, walkOf}
+use Rattle.coords.specs.Walk.{Coordinate, geometry, Content, point, line, rings, members, noMembers, oneMore, Parsed, ok, refused, mapParsed, stride, coordinateAt, coordinatesFrom, pointAt, coordinatesAt, lineAt, consParsed, andThen, times, listAt, ringsAt, membersAt, Class, pointClass, lineClass, polygonClass, collectionClass, unknownClass, contentOf, walkOf}
 use Rattle.coords.specs.Parts.{Run, run, nonEmptyRun, ringsRuns, runsOf, contentRuns, membersRuns}
 use Rattle.coords.specs.Inner.{ParsedRuns, coordinatesRuns, lineRuns, ringsAtRuns, membersAtRuns, walkRuns}
 
@@ -44,7 +44,7 @@ rings-runs h s at = map-list _∷_ [] (nonEmptyRun (h .kind)) (ringsRuns (h .kin
 
 pub members-runs : (levels : ℕ) (little : Bool) (s : List ℕ) (at : ℕ) → membersAtRuns levels little s at ≡ listAt _++_ [] (walkRuns levels s) little s at
 unfolding membersRuns
-members-runs levels little s at = map-list more none runsOf membersRuns refl (λ g gs. refl) (walkOf levels s) little s at
+members-runs levels little s at = map-list oneMore noMembers runsOf membersRuns refl (λ g gs. refl) (walkOf levels s) little s at
 
 pub line-runs : (h : WkbHeader) (s : List ℕ) (at : ℕ) → lineRuns h s at ≡ cond (ltb (length s) (at + 4)) (refused 9) (coordinatesRuns h s (u32At (h .little) s at) (at + 4))
 unfolding lineAt

@@ -1,10 +1,10 @@
--- What the tree of a geometry comes to (document 01, Parts): its runs, their numbers, the vertices, the deepest level. Definitions only.
-use Prim.Native.Nat.{ℕ, suc, _+_}
+-- What the tree of a geometry comes to (document 01, Parts): its runs, their numbers, the vertices. Definitions only.
+use Prim.Native.Nat.{ℕ, _+_}
 use mathlib.Core.List.{List, [], _∷_, _++_, map}
 use mathlib.Core.Bool.{Bool, cond, _||_}
 use lib.ListN.{length}
-use lib.Dec.{ltb, eqb}
-use Rattle.coords.specs.Walk.{Coordinate, Geometry, geometry, Content, point, line, rings, members, Members, none, more, Parsed, ok, refused}
+use lib.Dec.{eqb}
+use Rattle.coords.specs.Walk.{Coordinate, Geometry, geometry, Content, point, line, rings, members, Members, noMembers, oneMore, Parsed, ok, refused}
 
 -- ---- runs
 
@@ -39,8 +39,8 @@ unfoldable mutual
   contentRuns kind (members gs) = membersRuns gs
 
   pub membersRuns : Members → List (Run Coordinate)
-  membersRuns none = []
-  membersRuns (more g gs) = runsOf g ++ membersRuns gs
+  membersRuns noMembers = []
+  membersRuns (oneMore g gs) = runsOf g ++ membersRuns gs
 
 -- the runs of a walk; none where it refuses
 unfoldable pub walkedRuns : Parsed Geometry → List (Run Coordinate)
@@ -94,24 +94,3 @@ faceVertices (run kind cs ∷ rs) = cond (isFace kind) cs [] ++ faceVertices rs
 -- all points, then both ends of every segment, then face vertices, each kind in walk order
 unfoldable pub verticesOf : {A : Type 0} → List (Run A) → List A
 verticesOf rs = pointVertices rs ++ (segmentVertices rs ++ faceVertices rs)
-
--- ---- levels
-
--- the greater of two numbers
-abbrev pub max : ℕ → ℕ → ℕ
-max a b = cond (ltb a b) b a
-
-unfoldable mutual
-  -- the deepest level below a geometry, itself at level 0
-  pub deepestLevel : Geometry → ℕ
-  deepestLevel (geometry kind z m content) = contentLevel content
-
-  pub contentLevel : Content → ℕ
-  contentLevel (point c) = 0
-  contentLevel (line cs) = 0
-  contentLevel (rings rs) = 0
-  contentLevel (members gs) = membersLevel gs
-
-  pub membersLevel : Members → ℕ
-  membersLevel none = 0
-  membersLevel (more g gs) = max (suc (deepestLevel g)) (membersLevel gs)

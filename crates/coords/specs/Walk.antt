@@ -1,10 +1,11 @@
 -- The walk of a WKB geometry (document 01, Walk): the tree that the bytes at a position hold and the position after it, or the number of a refusal. Definitions only.
-use Prim.Native.Nat.{ℕ, zero, suc, _+_, _*_, _/_, _%_}
+use Prim.Native.Nat.{ℕ, zero, suc, _+_, _*_}
 use mathlib.Core.List.{List, [], _∷_}
 use mathlib.Core.Bool.{Bool, true, false, cond, _&&_, _||_}
 use lib.ListN.{length, getD}
 use lib.Dec.{ltb, leb, eqb}
 use Rattle.fields.specs.Fields.{u32At, u64At}
+use Rattle.fields.specs.TypeCode.{thousandsOf, kindOf, hasFlag, zFlag, mFlag, sridFlag}
 use Rattle.coords.specs.declared.WkbHeader.{WkbHeader}
 use Rattle.coords.specs.declared.ParsedHeader.{ParsedHeader}
 use Rattle.coords.specs.declared.ParsedHeader.the-variants as header
@@ -32,8 +33,8 @@ mutual
 
   -- geometries in a row
   pub data Members : Type 0 where
-    none : Members
-    more : Geometry → Members → Members
+    noMembers : Members
+    oneMore : Geometry → Members → Members
 
 -- what was read and the position after it, or the refusal's number
 pub data Parsed (A : Type 0) : Type 0 where
@@ -51,21 +52,13 @@ needBytes s end r = cond (ltb (length s) end) (refused 9) r
 
 -- ---- the header of a geometry
 
--- v / 1000, v being the type's low 16 bits
-abbrev pub thousandsOf : ℕ → ℕ
-thousandsOf code = code % 65536 / 1000
-
--- whether a flag of the type, a power of 2, is set (EWKB)
-abbrev pub hasFlag : ℕ → ℕ → Bool
-hasFlag flag code = eqb (code / flag % 2) 1
-
 -- v / 1000 of 1, 2, 3 means XYZ, XYM, XYZM; otherwise flag 80000000 gives Z
 unfoldable pub zOf : ℕ → Bool
 zOf code =
     cond (eqb (thousandsOf code) 1) true
     (cond (eqb (thousandsOf code) 2) false
     (cond (eqb (thousandsOf code) 3) true
-    (hasFlag 0x8000_0000 code)))
+    (hasFlag zFlag code)))
 
 -- the same for M: flag 40000000
 unfoldable pub mOf : ℕ → Bool
@@ -73,11 +66,7 @@ mOf code =
     cond (eqb (thousandsOf code) 1) false
     (cond (eqb (thousandsOf code) 2) true
     (cond (eqb (thousandsOf code) 3) true
-    (hasFlag 0x4000_0000 code)))
-
--- the kind is v mod 1000
-abbrev pub kindOf : ℕ → ℕ
-kindOf code = code % 65536 % 1000
+    (hasFlag mFlag code)))
 
 -- byte order, type, and where the content starts
 abbrev pub headerOf : Bool → ℕ → ℕ → WkbHeader
@@ -86,7 +75,7 @@ headerOf little code body = record { little = little; z = zOf code; m = mOf code
 -- the type is read; 4 SRID bytes follow it if flag 20000000 is set: refusal 9 where they are missing
 unfoldable pub headerOfType : List ℕ → Bool → ℕ → ℕ → ParsedHeader
 headerOfType s little code at =
-    cond (hasFlag 0x2000_0000 code)
+    cond (hasFlag sridFlag code)
     (cond (ltb (length s) (at + 9)) (header.Refused 9) (header.Read (headerOf little code (at + 9))))
     (header.Read (headerOf little code (at + 5)))
 
@@ -173,7 +162,7 @@ ringsAt h s at = listAt _∷_ [] (lineAt h s) (h .little) s at
 
 -- a count of geometries, each member read by f
 abbrev pub membersAt : (ℕ → Parsed Geometry) → Bool → List ℕ → ℕ → Parsed Members
-membersAt f little s at = listAt more none f little s at
+membersAt f little s at = listAt oneMore noMembers f little s at
 
 -- ---- geometries
 

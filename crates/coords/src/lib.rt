@@ -39,12 +39,12 @@ pub const ALL_LEVELS: usize = 33;
 fn z_of(code: u32) -> bool
     ensures { λ r. ⌜ r ≡ zOf code ⌝ }
 {
-    let thousands = code % 65536 / 1000;
+    let thousands = fields::type_thousands(code);
     match thousands {
         1 => true,
         2 => false,
         3 => true,
-        _ => code / 0x8000_0000 % 2 == 1,
+        _ => fields::has_z_flag(code),
     }
 }
 
@@ -52,12 +52,12 @@ fn z_of(code: u32) -> bool
 fn m_of(code: u32) -> bool
     ensures { λ r. ⌜ r ≡ mOf code ⌝ }
 {
-    let thousands = code % 65536 / 1000;
+    let thousands = fields::type_thousands(code);
     match thousands {
         1 => false,
         2 => true,
         3 => true,
-        _ => code / 0x4000_0000 % 2 == 1,
+        _ => fields::has_m_flag(code),
     }
 }
 
@@ -86,8 +86,8 @@ pub fn read_header(s: &[u8], at: usize) -> ParsedHeader
     let code = u32_at(s, at + 1, little);
     let z = z_of(code);
     let m = m_of(code);
-    let kind = code % 65536 % 1000;
-    if code / 0x2000_0000 % 2 == 1 {
+    let kind = fields::type_kind(code);
+    if fields::has_srid_flag(code) {
         if is_short(s.len(), at, 9) {
             return ParsedHeader::Refused(9);
         }

@@ -9,6 +9,9 @@ pub mod BoxOfAll
 pub mod BoxSkips
 pub mod Taking
 pub mod BestSoFar
+pub mod EqualRoots
+pub mod Offered
+pub mod NanBest
 pub mod Repeats
 pub mod ClosestPoints
 pub mod PointsOnly

@@ -42,3 +42,13 @@ module _ {S R X Y : Type 0} (f : S → R) (g : X → Y) (skip : S → X → Bool
   skipping-mapped s (x ∷ l) =
       ap (λ (r : R). skipping skip′ step′ r (map g l)) (ap (λ (c : Bool). cond c (f s) (step′ (f s) (g x))) (same-skip s x) ∙ ap (λ (r : R). cond (skip s x) (f s) r) (same-step s x) ∙ push f (skip s x) s (step s x))
       ∙ skipping-mapped (cond (skip s x) s (step s x)) l
+
+-- a state that no step changes is the state at the end, skipped or not
+pub skipping-stays : {S X : Type 0} (skip : S → X → Bool) (step : S → X → S) (s : S) → ((x : X) → step s x ≡ s) → (l : List X) → skipping skip step s l ≡ s
+unfolding skipping
+skipping-stays skip step s stays [] = refl
+skipping-stays {S} skip step s stays (x ∷ l) = ap (λ (t : S). skipping skip step t l) (go (skip s x)) ∙ skipping-stays skip step s stays l
+  where
+    go : (c : Bool) → cond c s (step s x) ≡ s
+    go true = refl
+    go false = stays x

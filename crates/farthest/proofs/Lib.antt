@@ -2,7 +2,7 @@
 pub mod Unskipped
 pub mod LongestLine
 pub mod Repeated
-pub mod BestPair
+pub mod OfferedPair
 pub mod Appended
 pub mod PointTurns
 pub mod ClassTurns

@@ -1,18 +1,18 @@
 -- Vertices that stand several times in a row need be looked at once only. Assumes nothing.
-use mathlib.Core.Path.{_≡_, refl, ap, _∙_}
+use mathlib.Core.Path.{_≡_, _∙_}
 use mathlib.Core.List.{List}
-use mathlib.Core.Option.{Option, none, some}
+use mathlib.Core.Option.{Option}
 use Rattle.primitives.specs.declared.Point.{Point}
 use Rattle.primitives.specs.declared.Witness.{Witness}
 use Rattle.primitives.specs.declared.Aabb.{Aabb}
 use Rattle.primitives.specs.Witnesses.{betweenOf}
-use Rattle.extremes.specs.Sweeps.{skipping, taking, longer, boxOfAll}
+use Rattle.extremes.specs.Sweeps.{skipping, taking, longer}
 use Rattle.extremes.proofs.Senses.{longest}
 use Rattle.extremes.proofs.Distances.{distance-fits}
 use Rattle.extremes.proofs.Skipping.{skipping-agree}
-use Rattle.extremes.proofs.Taking.{Made, nothing, found, made-fits, row-made, taking-again, row-again}
-use Rattle.extremes.proofs.Repeats.{Repeats, fold-repeats, skipping-repeats, box-repeats}
-use Rattle.extremes.specs.Farthest.{noFarther, farthestFrom, farthestWithin, farthestOf}
+use Rattle.extremes.proofs.Taking.{Made, made-fits, row-made, taking-again, row-again}
+use Rattle.extremes.proofs.Repeats.{Repeats, fold-repeats, skipping-repeats}
+use Rattle.extremes.specs.Farthest.{noFarther, farthestFrom}
 
 -- a vertex of side 2 again, with the same vertex of side 1
 pub right-again : (a : Point) (best : Option Witness) (b : Point) → taking longer (taking longer best (betweenOf a b)) (betweenOf a b) ≡ taking longer best (betweenOf a b)
@@ -30,12 +30,6 @@ left-again rs best a m = row-again longest (λ b. betweenOf a b) (λ b. distance
 pub left-repeats : (box : Aabb) (rs : List Point) {ls ps : List Point} → Repeats ls ps → (best : Option Witness) → Made best → skipping (noFarther box) (farthestFrom rs) best ls ≡ skipping (noFarther box) (farthestFrom rs) best ps
 left-repeats box rs r best m = skipping-repeats (farthestFrom rs) Made (λ s a g. unfold farthestFrom in row-made longer a rs g) (λ s a g. left-again rs s a g) (noFarther box) r best m
 
-within-repeats : (b : Option Aabb) {ls ps rs qs : List Point} → Repeats ls ps → Repeats rs qs → farthestWithin b ls rs ≡ farthestWithin b ps qs
-unfolding farthestWithin
-within-repeats none r s = refl
-within-repeats (some box) {ls} {ps} {rs} {qs} r s = left-repeats box rs r none nothing ∙ skipping-agree (noFarther box) (farthestFrom qs) (farthestFrom rs) (λ t a. right-repeats s t a) none ps
-
--- repeated vertices on either side, or both
-pub farthest-repeats : {ls ps rs qs : List Point} → Repeats ls ps → Repeats rs qs → farthestOf ls rs ≡ farthestOf ps qs
-unfolding farthestOf
-farthest-repeats {ls} {ps} {rs} {qs} r s = ap (λ (b : Option Aabb). farthestWithin b ls rs) (box-repeats s) ∙ within-repeats (boxOfAll qs) r s
+-- repeated vertices on either side, or both, from any pair of points on
+pub sweep-repeats : (box : Aabb) {ls ps rs qs : List Point} → Repeats ls ps → Repeats rs qs → (start : Option Witness) → Made start → skipping (noFarther box) (farthestFrom rs) start ls ≡ skipping (noFarther box) (farthestFrom qs) start ps
+sweep-repeats box {ps} {rs} {qs} r s start m = left-repeats box rs r start m ∙ skipping-agree (noFarther box) (farthestFrom qs) (farthestFrom rs) (λ t a. right-repeats s t a) start ps

@@ -35,15 +35,16 @@ module _ (rs : List Point) (box : Aabb) (f : Each IsBinary64 rs) (e : boxOfAll r
       (each-weaken (λ (b : Point). IsBinary64 b × Inside box b) (λ (b : Point). lt (betweenOf p q .d) (betweenOf a b .d) ≡ false) (λ b i. box-no-farther box p q a b g (i .0) (box-fitting rs box f e) (i .1) (unfold noFarther in subst T (sym t) tt)) rs
       (each-both IsBinary64 (Inside box) rs f (box-holds rs box f e)))
 
-  all-rows : (ls : List Point) → Each IsBinary64 ls → skipping (noFarther box) (farthestFrom rs) none ls ≡ bestOf (λ v. v) longer none (pairsOf ls rs)
+  -- from any pair of points on
+  pub all-rows : (start : Option Witness) → Made start → (ls : List Point) → Each IsBinary64 ls → skipping (noFarther box) (farthestFrom rs) start ls ≡ bestOf (λ v. v) longer start (pairsOf ls rs)
   unfolding farthestFrom
-  all-rows ls g =
-      skips-hide-nothing (farthestFrom rs) Made IsBinary64 row-keeps (noFarther box) skip-hides none ls nothing g
-      ∙ fold-pairs (λ best p. taking longer best (measured (λ v. v) p)) rs none ls
+  all-rows start m ls g =
+      skips-hide-nothing (farthestFrom rs) Made IsBinary64 row-keeps (noFarther box) skip-hides start ls m g
+      ∙ fold-pairs (λ best p. taking longer best (measured (λ v. v) p)) rs start ls
 
 by-box : (ls rs : List Point) (b : Option Aabb) → Each IsBinary64 ls → Each IsBinary64 rs → boxOfAll rs ≡ b → farthestWithin b ls rs ≡ bestOf (λ v. v) longer none (pairsOf ls rs)
 unfolding farthestWithin
-by-box ls rs (some box) g f e = all-rows rs box f e ls g
+by-box ls rs (some box) g f e = all-rows rs box f e none nothing ls g
 by-box ls [] none g f e = ap {B = Option Witness} (bestOf (λ v. v) longer none) (sym (no-pairs ls))
 by-box ls (b ∷ rs) none g f e = absurd (box-exists b rs e)
 

@@ -17,10 +17,12 @@ use Rattle.primitives.specs.declared.Witness.{Witness}
 use Rattle.primitives.specs.declared.Aabb.{Aabb}
 use Rattle.primitives.specs.Boxes.{boxOfPoint, addPoint}
 use Rattle.extremes.specs.Sweeps.{skipping, boxOfAll}
-use Rattle.extremes.proofs.Repeats.{Repeats, done, once, again, no-repeats, repeats-append}
-use Rattle.extremes.specs.Farthest.{noFarther, farthestFrom, farthestWithin, farthestOf}
+use Rattle.extremes.proofs.Repeats.{Repeats, done, once, again, no-repeats, repeats-append, box-repeats}
+use Rattle.extremes.proofs.Taking.{Made, nothing}
+use Rattle.extremes.proofs.Skipping.{skipping-stays}
+use Rattle.extremes.specs.Farthest.{farthestFrom, farthestWithin, farthestOf}
 use Rattle.farthest.specs.Inner.{vertexClass, classVertices, verticesOnce, emptyBox, boxWith, swept, sweptOnce}
-use Rattle.farthest.proofs.Repeated.{farthest-repeats}
+use Rattle.farthest.proofs.Repeated.{sweep-repeats}
 
 -- ---- classes
 
@@ -84,10 +86,29 @@ first-point : (p : Point) → addPoint emptyBox p ≡ boxOfPoint p
 unfolding addPoint emptyBox boxOfPoint isNan
 first-point p = refl
 
+-- the box of NaNs where there is none
+orEmpty : Option Aabb → Aabb
+orEmpty none = emptyBox
+orEmpty (some box) = box
+
+box-of-all : (ps : List Point) → boxWith emptyBox ps ≡ orEmpty (boxOfAll ps)
+unfolding boxWith boxOfAll orEmpty
+box-of-all [] = refl
+box-of-all (p ∷ ps) = rw (first-point p)
+
+box-once : {ps qs : List Point} → Repeats ps qs → boxWith emptyBox ps ≡ boxWith emptyBox qs
+box-once {ps} {qs} r = box-of-all ps ∙ ap orEmpty (box-repeats r) ∙ sym (box-of-all qs)
+
+-- ---- the sweep
+
+-- the whole sweep of the code, from any pair of points on
+pub swept-once : (start : Option Witness) → Made start → (ls rs : List (Run Point)) → swept (boxWith emptyBox (verticesOf rs)) (verticesOf rs) start (verticesOf ls) ≡ sweptOnce start ls rs
+unfolding sweptOnce swept
+swept-once start m ls rs = rw (box-once (vertices-once rs)) (sweep-repeats (boxWith emptyBox (verticesOnce rs)) (vertices-once ls) (vertices-once rs) start m)
+
 nothing-found : (box : Aabb) (ls : List Point) → swept box [] none ls ≡ none
-unfolding swept skipping noFarther farthestFrom
-nothing-found box [] = refl
-nothing-found box (a ∷ ls) = nothing-found box ls
+unfolding swept farthestFrom
+nothing-found box ls = skipping-stays _ _ none (λ a. refl) ls
 
 -- the definition's sweep starts with the box of NaNs as well
 from-empty-box : (ls rs : List Point) → farthestOf ls rs ≡ swept (boxWith emptyBox rs) rs none ls
@@ -95,7 +116,6 @@ unfolding farthestOf farthestWithin boxOfAll boxWith
 from-empty-box ls [] = sym (nothing-found emptyBox ls)
 from-empty-box ls (p ∷ rs) = unfold swept in rw (first-point p)
 
--- the whole sweep of the code
-pub farthest-once : (ls rs : List (Run Point)) → farthestOf (verticesOf ls) (verticesOf rs) ≡ sweptOnce ls rs
-unfolding sweptOnce
-farthest-once ls rs = farthest-repeats (vertices-once ls) (vertices-once rs) ∙ from-empty-box (verticesOnce ls) (verticesOnce rs)
+-- from no pair on, it is the definition's
+pub farthest-once : (ls rs : List (Run Point)) → farthestOf (verticesOf ls) (verticesOf rs) ≡ sweptOnce none ls rs
+farthest-once ls rs = from-empty-box (verticesOf ls) (verticesOf rs) ∙ swept-once none nothing ls rs

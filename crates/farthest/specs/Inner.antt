@@ -1,49 +1,22 @@
--- The state of the sweep's loops, and the vertices in the order in which they are walked. Serves inner contracts. Definitions only.
+-- The vertices in the order in which they are walked, and the sweep over them. Serves inner contracts. Definitions only.
 use Prim.Native.Nat.{ℕ}
 use mathlib.Core.Path.{_≡_}
-use mathlib.Core.Bool.{Bool, true, false, cond, _&&_, _||_}
+use mathlib.Core.Bool.{Bool, false, cond, _&&_, _||_}
 use mathlib.Core.List.{List, [], _∷_, _++_, foldl}
-use mathlib.Core.Option.{Option, none, some}
+use mathlib.Core.Option.{Option}
 use lib.Dec.{ltb, eqb}
 use lib.ListN.{length}
-use lib.Ieee.{nan, lt}
-use Rattle.ieee754.specs.MinMax.{positiveZero}
+use lib.Ieee.{nan}
 use Rattle.coords.specs.Parts.{Run, run, isLine}
 use Rattle.parts.specs.Stored.{kindAt, countAt}
 use Rattle.parts.specs.Classes.{runClass}
 use Rattle.primitives.specs.declared.Point.{Point}
 use Rattle.primitives.specs.declared.Witness.{Witness}
 use Rattle.primitives.specs.declared.Aabb.{Aabb}
-use Rattle.primitives.specs.Vectors.{squaredDistance}
-use Rattle.primitives.specs.Witnesses.{betweenOf}
 use Rattle.primitives.specs.Boxes.{addPoint}
 use Rattle.extremes.specs.Sweeps.{skipping}
-use Rattle.farthest.specs.declared.Best.{Best}
 use Rattle.farthest.specs.declared.Classes.{Classes}
 use Rattle.extremes.specs.Farthest.{noFarther, farthestFrom}
-
--- ---- the best pair so far
-
--- the pair that a state has: none if its distance is below 0
-unfoldable pub pairOf : Best → Option Witness
-pairOf b = cond (lt (b .w .d) positiveZero) none (some (b .w))
-
--- the best pair is one of two points, with its sum of squares
-pub record OfPoints (b : Best) : Type 0 where
-  pub left : Point
-  pub right : Point
-  pub squares : b .sum ≡ squaredDistance left right
-  pub witness : b .w ≡ betweenOf left right
-
--- the sum is NaN while there is no pair
-pub record Sound (b : Best) : Type 0 where
-  pub empty : lt (b .w .d) positiveZero ≡ true → b .sum ≡ nan
-  pub pair : lt (b .w .d) positiveZero ≡ false → OfPoints b
-
--- b is sound and has that pair
-pub record Keeps (b : Best) (pair : Option Witness) : Type 0 where
-  pub same : pairOf b ≡ pair
-  pub sound : Sound b
 
 -- ---- vertices, each once
 
@@ -92,6 +65,6 @@ boxWith box ps = foldl addPoint box ps
 unfoldable pub swept : Aabb → List Point → Option Witness → List Point → Option Witness
 swept box rs pair ls = skipping (noFarther box) (farthestFrom rs) pair ls
 
--- the whole sweep, each vertex once, the box of no point being the box of NaNs
-unfoldable pub sweptOnce : List (Run Point) → List (Run Point) → Option Witness
-sweptOnce ls rs = swept (boxWith emptyBox (verticesOnce rs)) (verticesOnce rs) none (verticesOnce ls)
+-- the whole sweep from a pair on, each vertex once, the box of no point being the box of NaNs
+unfoldable pub sweptOnce : Option Witness → List (Run Point) → List (Run Point) → Option Witness
+sweptOnce start ls rs = swept (boxWith emptyBox (verticesOnce rs)) (verticesOnce rs) start (verticesOnce ls)

@@ -1,12 +1,24 @@
-// The farthest sweep: plain loops over the runs of two workspaces, class by class.
+// The farthest sweep: the first longest pair of a vertex of side 1 and a vertex of side 2, by plain loops over the runs of two workspaces.
+//
+// 1. Side 2 is looked through once: which classes of runs occur, and the box of all its vertices (`Outline`).
+// 2. Each vertex of side 1 meets each vertex of side 2 (`visit_all`, from a given best on). Both go class by class, points, lines, faces, and in
+//    a class run by run. The first pair is taken, a later one only if strictly longer.
+// 3. Left out, since no answer changes by it (laws in proofs/):
+//    - a vertex of side 1 whose greatest squared gap to the box, times 1 + 2^-49 for what rounding may take, is at most the best's square
+//      (`no_farther`; Unskipped), and every vertex once the best is NaN, since nothing is longer than NaN (`visit`; Appended);
+//    - the root of a sum of squares that is no greater than the best's, whose root is no greater either (`against_run`; OfferedPair);
+//    - what the definition meets twice: each inner vertex of a line, the end of one segment and the start of the next (VerticesOnce);
+//    - classes that do not occur: their runs are not looked for again at every vertex (ClassTurns).
+use extremes::Best;
 use extremes::ExtremePair;
 use primitives::Aabb;
 use primitives::Point;
 use primitives::Witness;
 ghost use mathlib.Core.Path.{_≡_};
 ghost use mathlib.Core.List.{[], _∷_};
-ghost use mathlib.Core.Option.{none};
+ghost use mathlib.Core.Bool.{false};
 ghost use Prim.Native.Nat.{_+_, _*_, _≤_, _<_};
+ghost use lib.Ieee.{le};
 ghost use lib.ListN.{length};
 ghost use Rattle.coords.specs.Parts.{verticesOf};
 ghost use Rattle.workspace.specs.Workspace.{floatsPerCoordinate};
@@ -16,13 +28,8 @@ ghost use Rattle.primitives.specs.Witnesses.{betweenOf};
 ghost use Rattle.extremes.specs.Sweeps.{taking, longer};
 ghost use Rattle.extremes.specs.Farthest.{noFarther, farthestFrom, farthestOf};
 ghost use Rattle.extremes.specs.Found.{answerOf};
-ghost use Rattle.farthest.specs.Inner.{pairOf, Sound, Keeps, classAt, classVertices, verticesOnce, occurs, Occurs, emptyBox, boxWith, swept, sweptOnce};
-
-// The best pair so far: its sum of squares and its witness. While there is none, the distance is below 0 and the sum NaN.
-pub struct Best {
-    pub sum: f64,
-    pub w: Witness,
-}
+ghost use Rattle.extremes.specs.InnerBest.{bestOf, Sound, Keeps};
+ghost use Rattle.farthest.specs.Inner.{classAt, classVertices, verticesOnce, occurs, Occurs, emptyBox, boxWith, swept, sweptOnce};
 
 // Which classes a table has.
 pub struct Classes {
@@ -31,38 +38,41 @@ pub struct Classes {
     pub faces: bool,
 }
 
-// The better of the best pair and p with q, whose sum of squares is s: first pair taken, later ones only if strictly longer.
+// What the sweep asks of side 2 at every vertex of side 1: its classes, and the box of all its vertices.
+pub struct Outline {
+    pub has: Classes,
+    pub bounds: Aabb,
+}
+
+// The better of the best pair and p with q, whose sum of squares s is not at most the best's: first pair taken, later ones only if strictly longer.
+// Where the roots are equal the greater sum is kept, so that no sum up to it takes a root again.
 fn offer(best: Best, p: Point, q: Point, s: f64) -> Best
     requires { ⌜ Sound best ⌝ }
     requires { ⌜ s ≡ squaredDistance p q ⌝ }
-    ensures { λ r. ⌜ Keeps r (taking longer (pairOf best) (betweenOf p q)) ⌝ }
+    requires { ⌜ le s (best .sum) ≡ false ⌝ }
+    ensures { λ r. ⌜ Keeps r (taking longer (bestOf best) (betweenOf p q)) ⌝ }
 {
-    let d = ieee754::root(s);
-    let longest = best.w.d;
-    if longest < 0.0 {} else {
-        if d > longest {} else {
+    let w = Witness::between(p, q);
+    let longest = best.witness;
+    if longest.d < 0.0 {} else {
+        if w.d > longest.d {} else {
+            if w.d == longest.d {
+                return Best {
+                    sum: s,
+                    witness: longest,
+                };
+            }
             return best;
         }
     }
-    Best {
-        sum: s,
-        w: Witness {
-            d,
-            ax: p.x,
-            ay: p.y,
-            az: p.z,
-            bx: q.x,
-            by: q.y,
-            bz: q.z,
-        },
-    }
+    Best { sum: s, witness: w }
 }
 
 // p against the points of a run. No root is taken where the sum of squares is no greater than the best pair's.
 fn against_run(best: Best, p: Point, floats: &[f64], first: usize, count: usize) -> Best
     requires { ⌜ Sound best ⌝ }
     requires { ⌜ floatsPerCoordinate * (first + count) ≤ length (now floats) ⌝ }
-    ensures { λ r. ⌜ Keeps r (farthestFrom (pointsFrom (now (floats .entry)) first count) (pairOf best) p) ⌝ }
+    ensures { λ r. ⌜ Keeps r (farthestFrom (pointsFrom (now (floats .entry)) first count) (bestOf best) p) ⌝ }
 {
     let mut b = best;
     let mut at = first;
@@ -84,20 +94,20 @@ fn class_at(table: &[u32], r: usize) -> u32
     requires { ⌜ r < runCount (now table) ⌝ }
     ensures { λ k. ⌜ k ≡ classAt (now (table .entry)) r ⌝ }
 {
-    let kind = parts::kind_at(table, r);
-    if kind == 2 {
+    let class = parts::run_class(parts::kind_at(table, r));
+    if class == parts::LINES {
         if parts::count_at(table, r) < 2 {
             return 0;
         }
     }
-    parts::run_class(kind)
+    class
 }
 
 // p against the vertices of a class.
 fn against_class(best: Best, p: Point, floats: &[f64], table: &[u32], class: u32) -> Best
     requires { ⌜ Sound best ⌝ }
     requires { ⌜ Laid (now table) (now floats) ⌝ }
-    ensures { λ r. ⌜ Keeps r (farthestFrom (classVertices class (storedRuns (now (table .entry)) (now (floats .entry)))) (pairOf best) p) ⌝ }
+    ensures { λ r. ⌜ Keeps r (farthestFrom (classVertices class (storedRuns (now (table .entry)) (now (floats .entry)))) (bestOf best) p) ⌝ }
 {
     let runs = parts::run_count(table);
     let mut b = best;
@@ -152,7 +162,7 @@ fn against_occurring(
     requires { ⌜ Sound best ⌝ }
     requires { ⌜ Laid (now table) (now floats) ⌝ }
     requires { ⌜ any ≡ occurs class (now table) ⌝ }
-    ensures { λ r. ⌜ Keeps r (farthestFrom (classVertices class (storedRuns (now (table .entry)) (now (floats .entry)))) (pairOf best) p) ⌝ }
+    ensures { λ r. ⌜ Keeps r (farthestFrom (classVertices class (storedRuns (now (table .entry)) (now (floats .entry)))) (bestOf best) p) ⌝ }
 {
     if any {
         return against_class(best, p, floats, table, class);
@@ -165,7 +175,7 @@ fn against_all(best: Best, p: Point, floats: &[f64], table: &[u32], has: Classes
     requires { ⌜ Sound best ⌝ }
     requires { ⌜ Laid (now table) (now floats) ⌝ }
     requires { ⌜ Occurs has (now table) ⌝ }
-    ensures { λ r. ⌜ Keeps r (farthestFrom (verticesOnce (storedRuns (now (table .entry)) (now (floats .entry)))) (pairOf best) p) ⌝ }
+    ensures { λ r. ⌜ Keeps r (farthestFrom (verticesOnce (storedRuns (now (table .entry)) (now (floats .entry)))) (bestOf best) p) ⌝ }
 {
     let b = against_occurring(best, p, floats, table, parts::POINTS, has.points);
     let b = against_occurring(b, p, floats, table, parts::LINES, has.lines);
@@ -177,9 +187,9 @@ const ONE_PLUS_SLACK: f64 = 1.0000000000000017763568394002504646778106689453125;
 
 // The skip: no vertex in the box is farther from p than the best pair is apart.
 fn no_farther(b: Best, p: Point, around: Aabb) -> bool
-    ensures { λ r. ⌜ r ≡ noFarther around (pairOf b) p ⌝ }
+    ensures { λ r. ⌜ r ≡ noFarther around (bestOf b) p ⌝ }
 {
-    let d = b.w.d;
+    let d = b.witness.d;
     if d < 0.0 {
         false
     } else {
@@ -187,16 +197,22 @@ fn no_farther(b: Best, p: Point, around: Aabb) -> bool
     }
 }
 
-// One vertex of side 1 against side 2, unless it is skipped.
-fn visit(best: Best, p: Point, floats: &[f64], table: &[u32], has: Classes, around: Aabb) -> Best
+// One vertex of side 1 against side 2, unless it is skipped. Nothing is longer than NaN, so a NaN best stays.
+fn visit(best: Best, p: Point, floats: &[f64], table: &[u32], outline: Outline) -> Best
     requires { ⌜ Sound best ⌝ }
     requires { ⌜ Laid (now table) (now floats) ⌝ }
-    requires { ⌜ Occurs has (now table) ⌝ }
-    ensures { λ r. ⌜ Keeps r (swept around (verticesOnce (storedRuns (now (table .entry)) (now (floats .entry)))) (pairOf best) (p ∷ [])) ⌝ }
+    requires { ⌜ Occurs (outline .has) (now table) ⌝ }
+    ensures { λ r. ⌜ Keeps r (swept (outline .bounds) (verticesOnce (storedRuns (now (table .entry)) (now (floats .entry)))) (bestOf best) (p ∷ [])) ⌝ }
 {
-    if no_farther(best, p, around) {
+    let d = best.witness.d;
+    if d != d {
         return best;
     }
+    let bounds = outline.bounds;
+    if no_farther(best, p, bounds) {
+        return best;
+    }
+    let has = outline.has;
     against_all(best, p, floats, table, has)
 }
 
@@ -208,27 +224,19 @@ fn visit_run(
     count: usize,
     floats2: &[f64],
     table2: &[u32],
-    has: Classes,
-    around: Aabb,
+    outline: Outline,
 ) -> Best
     requires { ⌜ Sound best ⌝ }
     requires { ⌜ floatsPerCoordinate * (first + count) ≤ length (now floats1) ⌝ }
     requires { ⌜ Laid (now table2) (now floats2) ⌝ }
-    requires { ⌜ Occurs has (now table2) ⌝ }
-    ensures { λ r. ⌜ Keeps r (swept around (verticesOnce (storedRuns (now (table2 .entry)) (now (floats2 .entry)))) (pairOf best) (pointsFrom (now (floats1 .entry)) first count)) ⌝ }
+    requires { ⌜ Occurs (outline .has) (now table2) ⌝ }
+    ensures { λ r. ⌜ Keeps r (swept (outline .bounds) (verticesOnce (storedRuns (now (table2 .entry)) (now (floats2 .entry)))) (bestOf best) (pointsFrom (now (floats1 .entry)) first count)) ⌝ }
 {
     let mut b = best;
     let mut at = first;
     let mut left = count;
     while 0 < left {
-        b = visit(
-            b,
-            parts::point_at(floats1, at),
-            floats2,
-            table2,
-            has,
-            around,
-        );
+        b = visit(b, parts::point_at(floats1, at), floats2, table2, outline);
         at += 1;
         left -= 1;
     }
@@ -243,14 +251,13 @@ fn visit_class(
     class: u32,
     floats2: &[f64],
     table2: &[u32],
-    has: Classes,
-    around: Aabb,
+    outline: Outline,
 ) -> Best
     requires { ⌜ Sound best ⌝ }
     requires { ⌜ Laid (now table1) (now floats1) ⌝ }
     requires { ⌜ Laid (now table2) (now floats2) ⌝ }
-    requires { ⌜ Occurs has (now table2) ⌝ }
-    ensures { λ r. ⌜ Keeps r (swept around (verticesOnce (storedRuns (now (table2 .entry)) (now (floats2 .entry)))) (pairOf best) (classVertices class (storedRuns (now (table1 .entry)) (now (floats1 .entry))))) ⌝ }
+    requires { ⌜ Occurs (outline .has) (now table2) ⌝ }
+    ensures { λ r. ⌜ Keeps r (swept (outline .bounds) (verticesOnce (storedRuns (now (table2 .entry)) (now (floats2 .entry)))) (bestOf best) (classVertices class (storedRuns (now (table1 .entry)) (now (floats1 .entry))))) ⌝ }
 {
     let runs = parts::run_count(table1);
     let mut b = best;
@@ -259,7 +266,7 @@ fn visit_class(
     while r < runs {
         let count = parts::count_at(table1, r);
         if class_at(table1, r) == class {
-            b = visit_run(b, floats1, at, count, floats2, table2, has, around);
+            b = visit_run(b, floats1, at, count, floats2, table2, outline);
         }
         at += count;
         r += 1;
@@ -276,18 +283,17 @@ fn visit_occurring(
     any: bool,
     floats2: &[f64],
     table2: &[u32],
-    has: Classes,
-    around: Aabb,
+    outline: Outline,
 ) -> Best
     requires { ⌜ Sound best ⌝ }
     requires { ⌜ Laid (now table1) (now floats1) ⌝ }
     requires { ⌜ any ≡ occurs class (now table1) ⌝ }
     requires { ⌜ Laid (now table2) (now floats2) ⌝ }
-    requires { ⌜ Occurs has (now table2) ⌝ }
-    ensures { λ r. ⌜ Keeps r (swept around (verticesOnce (storedRuns (now (table2 .entry)) (now (floats2 .entry)))) (pairOf best) (classVertices class (storedRuns (now (table1 .entry)) (now (floats1 .entry))))) ⌝ }
+    requires { ⌜ Occurs (outline .has) (now table2) ⌝ }
+    ensures { λ r. ⌜ Keeps r (swept (outline .bounds) (verticesOnce (storedRuns (now (table2 .entry)) (now (floats2 .entry)))) (bestOf best) (classVertices class (storedRuns (now (table1 .entry)) (now (floats1 .entry))))) ⌝ }
 {
     if any {
-        return visit_class(best, floats1, table1, class, floats2, table2, has, around);
+        return visit_class(best, floats1, table1, class, floats2, table2, outline);
     }
     best
 }
@@ -360,42 +366,26 @@ fn box_all(floats: &[f64], table: &[u32], has: Classes) -> Aabb
     box_occurring(lines, floats, table, parts::FACES, has.faces)
 }
 
-// No pair yet.
-fn none_yet() -> Best
-    ensures { λ r. ⌜ Keeps r none ⌝ }
-{
-    let w = Witness {
-        d: -1.0,
-        ax: 0.0,
-        ay: 0.0,
-        az: 0.0,
-        bx: 0.0,
-        by: 0.0,
-        bz: 0.0,
-    };
-    Best { sum: 0.0 / 0.0, w }
-}
-
-// All vertices of side 1 against side 2.
-fn visit_all(floats1: &[f64], table1: &[u32], floats2: &[f64], table2: &[u32]) -> Best
+// All vertices of side 1 against side 2, from a best pair on.
+fn visit_all(best: Best, floats1: &[f64], table1: &[u32], floats2: &[f64], table2: &[u32]) -> Best
+    requires { ⌜ Sound best ⌝ }
     requires { ⌜ Laid (now table1) (now floats1) ⌝ }
     requires { ⌜ Laid (now table2) (now floats2) ⌝ }
-    ensures { λ r. ⌜ Keeps r (sweptOnce (storedRuns (now (table1 .entry)) (now (floats1 .entry))) (storedRuns (now (table2 .entry)) (now (floats2 .entry)))) ⌝ }
+    ensures { λ r. ⌜ Keeps r (sweptOnce (bestOf best) (storedRuns (now (table1 .entry)) (now (floats1 .entry))) (storedRuns (now (table2 .entry)) (now (floats2 .entry)))) ⌝ }
 {
     let has1 = occurring(table1);
     let has2 = occurring(table2);
-    let around = box_all(floats2, table2, has2);
-    let b = none_yet();
+    let bounds = box_all(floats2, table2, has2);
+    let outline = Outline { has: has2, bounds };
     let b = visit_occurring(
-        b,
+        best,
         floats1,
         table1,
         parts::POINTS,
         has1.points,
         floats2,
         table2,
-        has2,
-        around,
+        outline,
     );
     let b = visit_occurring(
         b,
@@ -405,8 +395,7 @@ fn visit_all(floats1: &[f64], table1: &[u32], floats2: &[f64], table2: &[u32]) -
         has1.lines,
         floats2,
         table2,
-        has2,
-        around,
+        outline,
     );
     visit_occurring(
         b,
@@ -416,8 +405,7 @@ fn visit_all(floats1: &[f64], table1: &[u32], floats2: &[f64], table2: &[u32]) -
         has1.faces,
         floats2,
         table2,
-        has2,
-        around,
+        outline,
     )
 }
 
@@ -427,11 +415,6 @@ pub fn farthest(floats1: &[f64], table1: &[u32], floats2: &[f64], table2: &[u32]
     requires { ⌜ Laid (now table2) (now floats2) ⌝ }
     ensures { λ r. ⌜ r ≡ answerOf (farthestOf (verticesOf (storedRuns (now (table1 .entry)) (now (floats1 .entry)))) (verticesOf (storedRuns (now (table2 .entry)) (now (floats2 .entry))))) ⌝ }
 {
-    let all = visit_all(floats1, table1, floats2, table2);
-    let w = all.w;
-    if w.d < 0.0 {
-        ExtremePair::Nothing
-    } else {
-        ExtremePair::Found(w)
-    }
+    let none = extremes::none_yet();
+    extremes::answered(visit_all(none, floats1, table1, floats2, table2))
 }

@@ -4,6 +4,7 @@ use mathlib.Core.List.{List}
 use Prim.Native.Nat.{ℕ, _+_, _/_, _%_, _^_, _<_}
 use lib.Dec.{eqb, leb, lit<}
 use lib.ListN.{length, getD}
+use Rattle.fields.specs.TypeCode.{hasFlag, sridFlag}
 use Rattle.fields.specs.Fields.{u32At}
 use Rattle.fields.proofs.Bounds.{u32-fits}
 use Rattle.gpb.specs.Header.{isGp, flagsOf, geometryStart, byteOrderOf, topType, ewkbSrid, sridOf}
@@ -22,4 +23,4 @@ module _ (s : List ℕ) (bytes : (i : ℕ) → getD s i 0 < 256) where
   srid-fits =
       either-fits (isGp s) (u32At (eqb (flagsOf s % 2) 1) s 4) (ewkbSrid s)
       (u32-fits s bytes (eqb (flagsOf s % 2) 1) 4)
-      (either-fits (leb 9 (length s) && eqb (topType s / 0x2000_0000 % 2) 1) (u32At (eqb (byteOrderOf s) 1) s 5) 0 (u32-fits s bytes (eqb (byteOrderOf s) 1) 5) (lit< tt))
+      (either-fits (leb 9 (length s) && hasFlag sridFlag (topType s)) (u32At (eqb (byteOrderOf s) 1) s 5) 0 (u32-fits s bytes (eqb (byteOrderOf s) 1) 5) (lit< tt))

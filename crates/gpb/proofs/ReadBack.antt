@@ -15,7 +15,7 @@ use Rattle.fields.specs.Fields.{u32At, u64At, bytesOfU32, bytesOfU64}
 use Rattle.fields.proofs.ReadBack.{four-bytes-back, eight-bytes-back}
 use Rattle.gpb.specs.Header.{isGp, doublesOf, geometryStart, topType, sridOf, hasZ, underEightBytes, versionNotZero, extendedBit, reservedBits, indicatorAboveFour, endsInEnvelope, topHeaderCut, byteOrderAboveOne, lacksZ, gpChecks, topChecks, headerChecks, headerChecks3d, refusedOr, headerOf3d}
 use Rattle.gpb.specs.declared.Header.the-variants as header
-use Rattle.gpb.specs.Written.{headerBytes, ordinateBytes, coordinateBytes, pointBlob, lineBlob}
+use Rattle.gpb.specs.Written.{lineBytes, headerBytes, ordinateBytes, coordinateBytes, pointBlob, lineBlob}
 
 -- the header of a blob that starts as it is written: start 8, its type and SRID
 pub header-back : (srid code : ℕ) (rest : List ℕ) → srid < 2 ^ 32 → code < 2 ^ 32 → hasZ code ≡ true → headerOf3d (headerBytes srid code ++ rest) ≡ header.Found 8 code srid
@@ -59,10 +59,10 @@ line-fields-back srid ax ay az bx by bz rest fax fay faz fbx fby fbz = record {
   second-z = pattern-back bz fbz;
 }
 
-pub line-length : (srid : ℕ) (ax ay az bx by bz : Float) → length (lineBlob srid ax ay az bx by bz) ≡ 65
+pub line-length : (srid : ℕ) (ax ay az bx by bz : Float) → length (lineBlob srid ax ay az bx by bz) ≡ lineBytes
 unfolding lineBlob headerBytes coordinateBytes ordinateBytes bytesOfU64 bytesOfU32
 line-length srid ax ay az bx by bz = refl
 
 -- the first 65 bytes of what is written are the line's
-pub line-taken : (srid : ℕ) (ax ay az bx by bz : Float) (rest : List ℕ) → take 65 (lineBlob srid ax ay az bx by bz ++ rest) ≡ lineBlob srid ax ay az bx by bz
-line-taken srid ax ay az bx by bz rest = take-at (lineBlob srid ax ay az bx by bz) rest 65 (line-length srid ax ay az bx by bz)
+pub line-taken : (srid : ℕ) (ax ay az bx by bz : Float) (rest : List ℕ) → take lineBytes (lineBlob srid ax ay az bx by bz ++ rest) ≡ lineBlob srid ax ay az bx by bz
+line-taken srid ax ay az bx by bz rest = take-at (lineBlob srid ax ay az bx by bz) rest lineBytes (line-length srid ax ay az bx by bz)

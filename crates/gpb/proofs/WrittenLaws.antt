@@ -7,7 +7,7 @@ use lib.ListN.{length, drop}
 use lib.Seq.{sets}
 use Rattle.fields.specs.Fields.{bytesOfU32, bytesOfU64}
 use Rattle.fields.proofs.Stores.{sets-append, sets-front}
-use Rattle.gpb.specs.Written.{headerBytes, ordinateBytes, coordinateBytes, pointBlob, lineBlob}
+use Rattle.gpb.specs.Written.{pointBytes, lineBytes, headerBytes, ordinateBytes, coordinateBytes, pointBlob, lineBlob}
 
 -- ---- parts stored one behind the other are the whole
 
@@ -22,12 +22,12 @@ coordinate-stored x y z at p q r l l₁ l₂ l₃ ep eq er e₁ e₂ e₃ =
     stored : p ≡ toBits binary64 x → q ≡ toBits binary64 y → r ≡ toBits binary64 z → l₃ ≡ sets (sets (sets l at (ordinateBytes x)) (at + 8) (ordinateBytes y)) (at + 16) (ordinateBytes z)
     stored hp hq hr = e₃ ∙ ap (λ (n : ℕ). sets l₂ (at + 16) (bytesOfU64 n)) hr ∙ ap (λ (m : List ℕ). sets m (at + 16) (ordinateBytes z)) (e₂ ∙ ap (λ (n : ℕ). sets l₁ (at + 8) (bytesOfU64 n)) hq ∙ ap (λ (m : List ℕ). sets m (at + 8) (ordinateBytes y)) (e₁ ∙ ap (λ (n : ℕ). sets l at (bytesOfU64 n)) hp))
 
-pub point-stored : (srid : ℕ) (x y z : Float) (l l₁ l₂ : List ℕ) → 37 ≤ length l → l₁ ≡ sets l 0 (headerBytes srid 1001) → l₂ ≡ sets l₁ 13 (coordinateBytes x y z) → l₂ ≡ pointBlob srid x y z ++ drop 37 l
+pub point-stored : (srid : ℕ) (x y z : Float) (l l₁ l₂ : List ℕ) → pointBytes ≤ length l → l₁ ≡ sets l 0 (headerBytes srid 1001) → l₂ ≡ sets l₁ 13 (coordinateBytes x y z) → l₂ ≡ pointBlob srid x y z ++ drop pointBytes l
 unfolding pointBlob headerBytes coordinateBytes ordinateBytes bytesOfU64 bytesOfU32
 point-stored srid x y z l l₁ l₂ h e₁ e₂ =
-    e₂ ∙ ap (λ (m : List ℕ). sets m 13 (coordinateBytes x y z)) e₁ ∙ sym (sets-append (headerBytes srid 1001) (coordinateBytes x y z) l 0) ∙ sets-front 37 (pointBlob srid x y z) l refl h
+    e₂ ∙ ap (λ (m : List ℕ). sets m 13 (coordinateBytes x y z)) e₁ ∙ sym (sets-append (headerBytes srid 1001) (coordinateBytes x y z) l 0) ∙ sets-front pointBytes (pointBlob srid x y z) l refl h
 
-pub line-stored : (srid : ℕ) (ax ay az bx by bz : Float) (l l₁ l₂ l₃ l₄ : List ℕ) → 65 ≤ length l → l₁ ≡ sets l 0 (headerBytes srid 1002) → l₂ ≡ sets l₁ 13 (bytesOfU32 2) → l₃ ≡ sets l₂ 17 (coordinateBytes ax ay az) → l₄ ≡ sets l₃ 41 (coordinateBytes bx by bz) → l₄ ≡ lineBlob srid ax ay az bx by bz ++ drop 65 l
+pub line-stored : (srid : ℕ) (ax ay az bx by bz : Float) (l l₁ l₂ l₃ l₄ : List ℕ) → lineBytes ≤ length l → l₁ ≡ sets l 0 (headerBytes srid 1002) → l₂ ≡ sets l₁ 13 (bytesOfU32 2) → l₃ ≡ sets l₂ 17 (coordinateBytes ax ay az) → l₄ ≡ sets l₃ 41 (coordinateBytes bx by bz) → l₄ ≡ lineBlob srid ax ay az bx by bz ++ drop lineBytes l
 unfolding lineBlob headerBytes coordinateBytes ordinateBytes bytesOfU64 bytesOfU32
 line-stored srid ax ay az bx by bz l l₁ l₂ l₃ l₄ h e₁ e₂ e₃ e₄ =
     let head = headerBytes srid 1002 in
@@ -35,4 +35,4 @@ line-stored srid ax ay az bx by bz l l₁ l₂ l₃ l₄ h e₁ e₂ e₃ e₄ =
     let b = coordinateBytes bx by bz in
     let two : l₂ ≡ sets l 0 (head ++ bytesOfU32 2) = e₂ ∙ ap (λ (m : List ℕ). sets m 13 (bytesOfU32 2)) e₁ ∙ sym (sets-append head (bytesOfU32 2) l 0) in
     let three : l₃ ≡ sets l 0 (head ++ bytesOfU32 2 ++ a) = e₃ ∙ ap (λ (m : List ℕ). sets m 17 a) two ∙ sym (sets-append (head ++ bytesOfU32 2) a l 0) in
-    e₄ ∙ ap (λ (m : List ℕ). sets m 41 b) three ∙ sym (sets-append (head ++ bytesOfU32 2 ++ a) b l 0) ∙ sets-front 65 (lineBlob srid ax ay az bx by bz) l refl h
+    e₄ ∙ ap (λ (m : List ℕ). sets m 41 b) three ∙ sym (sets-append (head ++ bytesOfU32 2 ++ a) b l 0) ∙ sets-front lineBytes (lineBlob srid ax ay az bx by bz) l refl h

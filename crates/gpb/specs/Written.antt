@@ -16,10 +16,18 @@ ordinateBytes x = bytesOfU64 (toBits binary64 x)
 unfoldable pub coordinateBytes : Float → Float → Float → List ℕ
 coordinateBytes x y z = ordinateBytes x ++ ordinateBytes y ++ ordinateBytes z
 
--- a point, 37 bytes: type 1001, x, y, z
+-- the bytes of a point blob: header, three ordinates
+abbrev pub pointBytes : ℕ
+pointBytes = 37
+
+-- the bytes of a line blob: header, count, six ordinates
+abbrev pub lineBytes : ℕ
+lineBytes = 65
+
+-- a point: type 1001, x, y, z
 unfoldable pub pointBlob : ℕ → Float → Float → Float → List ℕ
 pointBlob srid x y z = headerBytes srid 1001 ++ coordinateBytes x y z
 
--- a line of two coordinates, 65 bytes: type 1002, count 2, both coordinates
+-- a line of two coordinates: type 1002, count 2, both coordinates
 unfoldable pub lineBlob : ℕ → Float → Float → Float → Float → Float → Float → List ℕ
 lineBlob srid ax ay az bx by bz = headerBytes srid 1002 ++ bytesOfU32 2 ++ coordinateBytes ax ay az ++ coordinateBytes bx by bz

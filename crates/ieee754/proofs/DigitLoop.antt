@@ -4,7 +4,7 @@ use Prim.Native.Nat.{ℕ, _+_, _-_, _*_, _/_, _%_, _^_, _≤_, _<_}
 use native.Mathlib.Nat.{mul-comm, mul-assoc, lt-of-lt-of-le}
 use native.Mathlib.Omega.{arith}
 use lib.Pow.{pow-add, pow-mono}
-use Rattle.ieee754.specs.Root.{RootDigits}
+use Rattle.ieee754.specs.InnerRoot.{RootDigits}
 use Rattle.ieee754.proofs.Arithmetic.{times4, sq-odd}
 
 -- what holds after i turns

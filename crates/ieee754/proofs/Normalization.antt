@@ -4,7 +4,7 @@ use Prim.Native.Nat.{ℕ, zero, suc, _+_, _-_, _*_, _/_, _%_, _^_, _≤_, _<_}
 use native.Mathlib.Nat.{mul-assoc, add-comm, pow-succ', lt-irrefl, zero-lt-suc}
 use native.Mathlib.Omega.{arith}
 use lib.Pow.{pow-add}
-use Rattle.ieee754.specs.Root.{unitsOfFields, unitsOfPattern, rootPattern, PositiveFinite, Normalized, RootDigits}
+use Rattle.ieee754.specs.InnerRoot.{unitsOfFields, unitsOfPattern, rootPattern, PositiveFinite, Normalized, RootDigits}
 use Rattle.ieee754.proofs.PatternUnits.{units-by-fields}
 use Rattle.ieee754.proofs.RootSearch.{rounds-down, rounds-up, root-has-53-digits}
 

@@ -5,7 +5,7 @@ use Prim.Native.Nat.{ℕ, zero, suc, _+_, _-_, _*_, _/_, _%_, _^_, _≤_, _<_}
 use native.Mathlib.Nat.{le-refl, le-trans, le-of-eq, le-of-lt, eq-or-lt-of-le, le-dest, mul-lt-mul-of-pos-right, add-zero, add-suc, pow-suc}
 use native.Mathlib.Omega.{arith}
 use lib.Pow.{pow-pos}
-use Rattle.ieee754.specs.Root.{unitsOfFields, unitsOfPattern}
+use Rattle.ieee754.specs.InnerRoot.{unitsOfFields, unitsOfPattern}
 
 pub units-by-fields : (b x t : ℕ) → b / 2 ^ 52 ≡ x → b % 2 ^ 52 ≡ t → unitsOfPattern b ≡ unitsOfFields x t
 unfolding unitsOfPattern

@@ -11,7 +11,8 @@ use lib.Ieee.Bits.{nanBits-above, ofBits-toBits, is-false, is-true}
 use lib.Ieee.Exact.{HasValue, odd-sign}
 use lib.Ieee.Fits.{down-pos}
 use lib.Ieee.Positive.{positive}
-use Rattle.ieee754.specs.Root.{unitsOfFields, unitsOfPattern, unitsOf, PositiveFinite}
+use Rattle.ieee754.specs.Root.{unitsOf}
+use Rattle.ieee754.specs.InnerRoot.{unitsOfFields, unitsOfPattern, PositiveFinite}
 
 -- ---- a pattern's value
 fields : (b : ℕ) → b < 2 ^ 63 → ofBits binary64 b ≡ ofFields binary64 false (b / 2 ^ 52) (b % 2 ^ 52)

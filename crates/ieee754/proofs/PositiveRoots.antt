@@ -13,7 +13,8 @@ use lib.Ieee.Positive.{positive, num, den, den-pos, value→cross, positive-of-v
 use lib.Ieee.Scale.{round-same, grid, round-val}
 use lib.Pow.{pow-pos}
 use lib.Ieee as Ieee
-use Rattle.ieee754.specs.Root.{unitsOfPattern, unitsOf, rootPattern, rootOf}
+use Rattle.ieee754.specs.Root.{unitsOf, rootOf}
+use Rattle.ieee754.specs.InnerRoot.{unitsOfPattern, rootPattern}
 use Rattle.ieee754.proofs.PatternUnits.{units-keep-order}
 use Rattle.ieee754.proofs.PatternValues.{pattern-value, positive-finite-pattern, units-of-value, units-of-float}
 use Rattle.ieee754.proofs.RootBounds.{root-pattern-keeps-order}

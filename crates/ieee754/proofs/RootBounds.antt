@@ -7,7 +7,8 @@ use native.Mathlib.Omega.{arith}
 use lib.Arith.{le→nltb}
 use lib.Dec.{T, ltb→lt, lt→ltb, nltb→le, lit≤}
 use lib.Pow.{pow-pos}
-use Rattle.ieee754.specs.Root.{unitsOfPattern, square, lowerHolds, greatestPattern, rootPattern}
+use Rattle.ieee754.specs.Root.{square}
+use Rattle.ieee754.specs.InnerRoot.{unitsOfPattern, lowerHolds, greatestPattern, rootPattern}
 use Rattle.ieee754.proofs.Arithmetic.{add-le-add, sq-mono}
 use Rattle.ieee754.proofs.PatternUnits.{units-keep-order}
 

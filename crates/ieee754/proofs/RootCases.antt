@@ -10,7 +10,8 @@ use lib.Ieee.Bits.{is-true}
 use lib.Ieee.Compare.{differs-from-itself}
 use lib.Ieee.Fits.{up-pos, and-l}
 use lib.Ieee.Positive.{positive}
-use Rattle.ieee754.specs.Root.{unitsOfPattern, unitsOf, rootPattern, rootOf}
+use Rattle.ieee754.specs.Root.{unitsOf, rootOf}
+use Rattle.ieee754.specs.InnerRoot.{unitsOfPattern, rootPattern}
 use Rattle.ieee754.proofs.PatternValues.{units-of-float}
 
 pub root-of-positive : (s : Float) → T (positive s) → ofBits binary64 (rootPattern (unitsOf s)) ≡ rootOf s

@@ -12,7 +12,8 @@ use lib.Ieee.Fits.{mul-fits}
 use lib.Ieee.Positive.{positive}
 use lib.IntN.{ℤ}
 use Rattle.ieee754.specs.MinMax.{positiveZero}
-use Rattle.ieee754.specs.Root.{unitsOfPattern, unitsOf, rootPattern, rootOf}
+use Rattle.ieee754.specs.Root.{unitsOf, rootOf}
+use Rattle.ieee754.specs.InnerRoot.{unitsOfPattern, rootPattern}
 use Rattle.ieee754.proofs.FloatOrder.{not-lt→le, le→not-lt, lt-nan-right, lt-nan-left, zero-sign-left, zero-sign-right}
 use Rattle.ieee754.proofs.FloatUnits.{units-of-zero}
 use Rattle.ieee754.proofs.PositiveRoots.{units-positive, root-value, root-of-square-positive, root-keeps-order-positive}

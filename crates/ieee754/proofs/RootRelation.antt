@@ -12,7 +12,8 @@ use lib.Ieee.{Float, binary64, fits, ofBits, toBits}
 use lib.Ieee.Bits.{ofBits-toBits, toBits-ofBits, ofBits-fits, nanBits-is}
 use lib.Ieee.Positive.{positive, positive-of-value}
 use lib.Pow.{pow-add, pow-pos}
-use Rattle.ieee754.specs.Root.{unitsOfPattern, unitsOf, square, neighbourAbove, neighbourBelow, IsRoot, rootPattern, rootOf}
+use Rattle.ieee754.specs.Root.{unitsOf, square, neighbourAbove, neighbourBelow, IsRoot, rootOf}
+use Rattle.ieee754.specs.InnerRoot.{unitsOfPattern, rootPattern}
 use Rattle.ieee754.proofs.Arithmetic.{sq-mono, spread}
 use Rattle.ieee754.proofs.PatternUnits.{units-keep-order}
 use Rattle.ieee754.proofs.PatternValues.{pattern-value, positive-finite-pattern, units-of-value, units-of-float, finite-pattern-no-nan, units-have-53-digits}

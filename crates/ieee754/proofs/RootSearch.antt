@@ -7,7 +7,8 @@ use native.Mathlib.Omega.{arith}
 use lib.Arith.{le→nltb}
 use lib.Dec.{T, lt→ltb}
 use lib.Pow.{pow-pos}
-use Rattle.ieee754.specs.Root.{unitsOfPattern, square, lowerHolds, greatestPattern, RootDigits}
+use Rattle.ieee754.specs.Root.{square}
+use Rattle.ieee754.specs.InnerRoot.{unitsOfPattern, lowerHolds, greatestPattern, RootDigits}
 use Rattle.ieee754.proofs.Arithmetic.{add-le-add, sq-suc, sq-mono, sq-lt, doubled-square, midpoint-square}
 use Rattle.ieee754.proofs.PatternUnits.{units-step, units-keep-order, units-at}
 

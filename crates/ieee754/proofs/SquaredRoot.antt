@@ -10,7 +10,8 @@ use lib.Ieee.Digits.{size-lt, size-reaches}
 use lib.Ieee.Nearest.{closest}
 use lib.Pow.{pow-add, pow-pos, pow-mono}
 use lib.Ieee as Ieee
-use Rattle.ieee754.specs.Root.{unitsOfPattern, square, rootPattern}
+use Rattle.ieee754.specs.Root.{square}
+use Rattle.ieee754.specs.InnerRoot.{unitsOfPattern, rootPattern}
 use Rattle.ieee754.proofs.Arithmetic.{add-le-add, pow-le, sq-suc, sq-mono, sq-lt, midpoint-square, spread}
 use Rattle.ieee754.proofs.HalfUnit.{Half, closest-half, closest-at, closest-exact, between}
 use Rattle.ieee754.proofs.PatternUnits.{units-step, units-keep-order, units-at}

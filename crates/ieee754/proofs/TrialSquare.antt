@@ -7,7 +7,7 @@ use native.Mathlib.Omega.{arith}
 use lib.Dec.{T, leb, leb→le, le→leb}
 use lib.Ieee.Bits.{is-true}
 use lib.Ieee.Fits.{and-l, and-r}
-use Rattle.ieee754.specs.Root.{RootDigits, isIntegerRoot, trialRemainder}
+use Rattle.ieee754.specs.InnerRoot.{RootDigits, isIntegerRoot, trialRemainder}
 
 pub record Halves (q a b : ℕ) : Type 0 where
   pub ab : a * b ≤ 2 ^ 53

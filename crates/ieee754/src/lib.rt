@@ -1,9 +1,12 @@
 // The square root of an f64, rounded once, from its bits; minimum, maximum, clamp, absolute value; and bit patterns.
 ghost use mathlib.Core.Path.{_≡_};
 ghost use Prim.Native.Nat.{ℕ, _+_, _*_, _^_, _≤_, _<_};
+ghost use lib.Dec.{T};
 ghost use lib.Ieee.{binary64, ofBits, toBits};
+ghost use lib.Ieee.Positive.{positive};
 ghost use Rattle.ieee754.specs.MinMax.{minimumOf, maximumOf, clampOf, absoluteOf};
-ghost use Rattle.ieee754.specs.Root.{RootDigits, isIntegerRoot, trialRemainder, PositiveFinite, Normalized, unitsOfPattern, rootPattern, rootOf};
+ghost use Rattle.ieee754.specs.Root.{rootOf, IsRoot};
+ghost use Rattle.ieee754.specs.InnerRoot.{RootDigits, isIntegerRoot, trialRemainder, PositiveFinite, Normalized, unitsOfPattern, rootPattern};
 
 // A whole root and its remainder.
 struct IntegerRoot {
@@ -180,9 +183,10 @@ fn root_pattern(b: u64) -> u64
     }
 }
 
-// The square root, rounded once to the nearest.
+// The square root, rounded once to the nearest: for every s, and of a positive finite s in document 01's own words.
 pub fn root(s: f64) -> f64
-    ensures { λ r. ⌜ r ≡ rootOf s ⌝ }
+    ensures of_every { λ r. ⌜ r ≡ rootOf s ⌝ }
+    ensures of_positive { λ r. ⌜ (T (positive s) → IsRoot s r) ⌝ }
 {
     if s != s {
         return s;

@@ -1,118 +1,67 @@
 -- The answers of the checks, by what the headers, the walks and the tests for 15 say. Assumes nothing.
-use mathlib.Core.Path.{_≡_, refl, sym, ap, _∙_}
-use mathlib.Core.Bool.{Bool, true, false}
+use mathlib.Core.Path.{_≡_, sym, ap, subst, _∙_}
+use mathlib.Core.Bool.{true, false}
 use mathlib.Core.List.{List}
 use mathlib.Core.Option.{Option, none, some}
 use Prim.Native.Nat.{ℕ}
-use native.Mathlib.Omega.{arith}
-use lib.ListN.{length}
 use Rattle.refusals.specs.Checks.{firstOf}
 use Rattle.refusals.specs.declared.Refusal.{Refusal}
-use Rattle.refusals.proofs.Checks.{given-exactly}
 use Rattle.refusals.proofs.Sides.{sided}
-use Rattle.gpb.specs.Header.{geometryStart, sridOf, headerChecks3d, refusedOr, headerOf3d}
-use Rattle.gpb.specs.declared.Header.{Header}
-use Rattle.gpb.specs.declared.Header.the-variants as header
-use Rattle.gpb.proofs.HeaderLaws.{refused-exactly-3d}
-use Rattle.coords.specs.Walk.{walkOf, allLevels}
-use Rattle.coords.specs.Parts.{coordinateCount}
+use Rattle.gpb.specs.Header.{geometryStart, headerChecks3d}
 use Rattle.coords.specs.Refusals.{walkChecks}
-use Rattle.coords.specs.Counts.{countsOf}
-use Rattle.coords.specs.declared.Counts.{Counts}
-use Rattle.coords.specs.declared.Counts.the-variants as counts
-use Rattle.coords.proofs.Refusals.{refused-is-given, accepted-gives-none}
-use Rattle.coords.proofs.Counted.{counted-refused, counted-accepted}
 use Rattle.workspace.specs.Workspace.{tooSmall, tooSmallFor}
-use Rattle.blob.specs.Blob.{walkOfBlob, runsOfBlob}
+use Rattle.blob.specs.Blob.{runsOfBlob}
+use Rattle.blob.specs.Inner.{operandOf}
+use Rattle.blob.specs.declared.Operand.{Operand}
+use Rattle.blob.specs.declared.TopHeader.{TopHeader}
+use Rattle.blob.proofs.Steps.{Given}
 use Rattle.operands.specs.Operands.{operandChecks}
 use Rattle.operands.specs.Inner.{checkedBy, checkedOf, HeadersRead}
 use Rattle.operands.specs.declared.Checked.the-variants as checked
 use Rattle.operands.proofs.Order.{first-header, second-header, first-walk, second-walk, first-room, second-room, no-refusal}
 
--- ---- the header of one side
+module _ (a b : List ℕ) (f1 n1 f2 n2 : ℕ) where
+  -- the answer, by the first check that holds
+  answer-is : (x : Option Refusal) → firstOf (operandChecks a b f1 n1 f2 n2) ≡ x → checkedBy x a b ≡ checkedOf a b f1 n1 f2 n2
+  unfolding checkedOf
+  answer-is x e = sym (ap (λ (y : Option Refusal). checkedBy y a b) e)
 
-pub header-refused : (s : List ℕ) (k : ℕ) (o : Header) → o ≡ headerOf3d s → o ≡ header.Refused k → firstOf (headerChecks3d s) ≡ some k
-header-refused s k o p q = given-exactly (headerChecks3d s) k .1 (refused-exactly-3d s k .0 (sym p ∙ q))
-
-pub record HeaderRead (s : List ℕ) (at srid : ℕ) : Type 0 where
-  pub none-holds : firstOf (headerChecks3d s) ≡ none
-  pub start : at ≡ geometryStart s
-  pub own : srid ≡ sridOf s
-
-pub header-read : (s : List ℕ) (at code srid : ℕ) (o : Header) → o ≡ headerOf3d s → o ≡ header.Found at code srid → HeaderRead s at srid
-unfolding headerOf3d refusedOr
-header-read s at code srid o p q = go (firstOf (headerChecks3d s)) refl
-  where
-    go : (x : Option ℕ) → firstOf (headerChecks3d s) ≡ x → HeaderRead s at srid
-    go (some j) e = let i : header.Refused j ≡ header.Found at code srid = sym (p ∙ ap (λ (y : Option ℕ). refusedOr y s) e) ∙ q in let z : _≡_ {A = ℕ} 0 1 = cc in absurd (omega arith)
-    go none e =
-        let i : header.Found (geometryStart s) _ (sridOf s) ≡ header.Found at code srid = sym (p ∙ ap (λ (y : Option ℕ). refusedOr y s) e) ∙ q in
-        record { none-holds = e; start = cc; own = cc }
-
-pub headers-read : (a b : List ℕ) (at1 at2 srid srid2 : ℕ) → HeaderRead a at1 srid → HeaderRead b at2 srid2 → HeadersRead a b at1 at2 srid
-headers-read a b at1 at2 srid srid2 x y = record { first = x .none-holds; second = y .none-holds; start1 = x .start; start2 = y .start; own = x .own }
-
--- ---- the answer, by the first check that holds
-
-pub answer-is : (a b : List ℕ) (f1 n1 f2 n2 : ℕ) (x : Option Refusal) → firstOf (operandChecks a b f1 n1 f2 n2) ≡ x → checkedBy x a b ≡ checkedOf a b f1 n1 f2 n2
-unfolding checkedOf
-answer-is a b f1 n1 f2 n2 x e = sym (ap (λ (y : Option Refusal). checkedBy y a b) e)
-
-pub by-first-header : (a b : List ℕ) (f1 n1 f2 n2 k : ℕ) → firstOf (headerChecks3d a) ≡ some k → checked.Refused (sided 1 k) ≡ checkedOf a b f1 n1 f2 n2
-unfolding checkedBy
-by-first-header a b f1 n1 f2 n2 k e = answer-is a b f1 n1 f2 n2 (some (sided 1 k)) (first-header a b f1 n1 f2 n2 k e)
-
-pub by-second-header : (a b : List ℕ) (f1 n1 f2 n2 at srid : ℕ) → HeaderRead a at srid → (k : ℕ) → firstOf (headerChecks3d b) ≡ some k → checked.Refused (sided 2 k) ≡ checkedOf a b f1 n1 f2 n2
-unfolding checkedBy
-by-second-header a b f1 n1 f2 n2 at srid h k e = answer-is a b f1 n1 f2 n2 (some (sided 2 k)) (second-header a b f1 n1 f2 n2 (h .none-holds) k e)
-
--- ---- the walk of one side
-
-pub record WalkRead (s : List ℕ) (coords runs : ℕ) : Type 0 where
-  pub none-holds : firstOf (walkChecks s (geometryStart s)) ≡ none
-  pub coordinates : coords ≡ coordinateCount (runsOfBlob s)
-  pub number : runs ≡ length (runsOfBlob s)
-
--- the test for 15 by these counts
-same-test : (s : List ℕ) (coords runs floats numbers : ℕ) → WalkRead s coords runs → tooSmall (runsOfBlob s) floats numbers ≡ tooSmallFor coords runs floats numbers
-same-test s coords runs floats numbers r = rw (r .coordinates, r .number)
-
-module _ (s : List ℕ) (at : ℕ) (starts : at ≡ geometryStart s) (o : Counts) (p : o ≡ countsOf (walkOf allLevels s at)) where
-  walked : o ≡ countsOf (walkOfBlob s)
-  walked = p ∙ ap (λ (i : ℕ). countsOf (walkOf allLevels s i)) starts
-
-  pub walk-refused : (k : ℕ) → o ≡ counts.Refused k → firstOf (walkChecks s (geometryStart s)) ≡ some k
-  walk-refused k q = refused-is-given s (geometryStart s) k (counted-refused (walkOfBlob s) k o walked q)
-
-  pub walk-read : (coords runs end : ℕ) → o ≡ counts.Accepted coords runs end → WalkRead s coords runs
-  walk-read coords runs end q =
-      let c = counted-accepted (walkOfBlob s) coords runs end o walked q in
-      record { none-holds = accepted-gives-none s (geometryStart s) (c .tree) end (c .read); coordinates = c .coordinates; number = c .number }
-
--- ---- both headers are read: the walks, and 15
-
-module _ (a b : List ℕ) (at1 at2 srid f1 n1 f2 n2 : ℕ) (h : HeadersRead a b at1 at2 srid) where
-  pub by-first-walk : (k : ℕ) → firstOf (walkChecks a (geometryStart a)) ≡ some k → checked.Refused (sided 1 k) ≡ checkedOf a b f1 n1 f2 n2
+  refused-by : (r : Refusal) (side k : ℕ) → r ≡ sided side k → firstOf (operandChecks a b f1 n1 f2 n2) ≡ some (sided side k) → checked.Refused r ≡ checkedOf a b f1 n1 f2 n2
   unfolding checkedBy
-  by-first-walk k e = answer-is a b f1 n1 f2 n2 (some (sided 1 k)) (first-walk a b f1 n1 f2 n2 (h .first) (h .second) k e)
+  refused-by r side k e h = rw e (answer-is (some (sided side k)) h)
 
-  module _ (coords1 runs1 : ℕ) (r1 : WalkRead a coords1 runs1) where
-    pub by-second-walk : (k : ℕ) → firstOf (walkChecks b (geometryStart b)) ≡ some k → checked.Refused (sided 2 k) ≡ checkedOf a b f1 n1 f2 n2
-    unfolding checkedBy
-    by-second-walk k e = answer-is a b f1 n1 f2 n2 (some (sided 2 k)) (second-walk a b f1 n1 f2 n2 (h .first) (h .second) (r1 .none-holds) k e)
+  -- ---- the headers
 
-    module _ (coords2 runs2 : ℕ) (r2 : WalkRead b coords2 runs2) (t1 : Bool) (u1 : t1 ≡ tooSmallFor coords1 runs1 f1 n1) where
-      pub by-first-room : t1 ≡ true → checked.Refused (sided 1 15) ≡ checkedOf a b f1 n1 f2 n2
-      unfolding checkedBy
-      by-first-room e = answer-is a b f1 n1 f2 n2 (some (sided 1 15)) (first-room a b f1 n1 f2 n2 (h .first) (h .second) (r1 .none-holds) (r2 .none-holds) (same-test a coords1 runs1 f1 n1 r1 ∙ (sym u1 ∙ e)))
+  pub by-first-header : (r : Refusal) → Given (firstOf (headerChecks3d a)) 1 r → checked.Refused r ≡ checkedOf a b f1 n1 f2 n2
+  by-first-header r g = refused-by r 1 (g .number) (g .is) (first-header a b f1 n1 f2 n2 (g .number) (g .holds))
 
-      module _ (e1 : t1 ≡ false) (t2 : Bool) (u2 : t2 ≡ tooSmallFor coords2 runs2 f2 n2) where
-        pub by-second-room : t2 ≡ true → checked.Refused (sided 2 15) ≡ checkedOf a b f1 n1 f2 n2
-        unfolding checkedBy
-        by-second-room e = answer-is a b f1 n1 f2 n2 (some (sided 2 15)) (second-room a b f1 n1 f2 n2 (h .first) (h .second) (r1 .none-holds) (r2 .none-holds) (same-test a coords1 runs1 f1 n1 r1 ∙ (sym u1 ∙ e1)) (same-test b coords2 runs2 f2 n2 r2 ∙ (sym u2 ∙ e)))
+  pub by-second-header : (r : Refusal) → firstOf (headerChecks3d a) ≡ none → Given (firstOf (headerChecks3d b)) 2 r → checked.Refused r ≡ checkedOf a b f1 n1 f2 n2
+  by-second-header r h g = refused-by r 2 (g .number) (g .is) (second-header a b f1 n1 f2 n2 h (g .number) (g .holds))
 
-        pub by-none : t2 ≡ false → checked.Accepted (record { first = record { at = at1; coords = coords1; runs = runs1 }; second = record { at = at2; coords = coords2; runs = runs2 }; srid = srid }) ≡ checkedOf a b f1 n1 f2 n2
-        unfolding checkedBy
-        by-none e =
-            rw (h .start1, h .start2, h .own, r1 .coordinates, r1 .number, r2 .coordinates, r2 .number)
-            (answer-is a b f1 n1 f2 n2 none (no-refusal a b f1 n1 f2 n2 (h .first) (h .second) (r1 .none-holds) (r2 .none-holds) (same-test a coords1 runs1 f1 n1 r1 ∙ (sym u1 ∙ e1)) (same-test b coords2 runs2 f2 n2 r2 ∙ (sym u2 ∙ e))))
+  -- ---- both headers are read: the walks, and 15
+
+  module _ (top1 top2 : TopHeader) (h : HeadersRead a b top1 top2) where
+    pub by-first-walk : (r : Refusal) → Given (firstOf (walkChecks a (geometryStart a))) 1 r → checked.Refused r ≡ checkedOf a b f1 n1 f2 n2
+    by-first-walk r g = refused-by r 1 (g .number) (g .is) (first-walk a b f1 n1 f2 n2 (h .first) (h .second) (g .number) (g .holds))
+
+    module _ (v1 : Operand) (w1 : (firstOf (walkChecks a (geometryStart a)) ≡ none) × (v1 ≡ operandOf a)) where
+      pub by-second-walk : (r : Refusal) → Given (firstOf (walkChecks b (geometryStart b))) 2 r → checked.Refused r ≡ checkedOf a b f1 n1 f2 n2
+      by-second-walk r g = refused-by r 2 (g .number) (g .is) (second-walk a b f1 n1 f2 n2 (h .first) (h .second) (w1 .0) (g .number) (g .holds))
+
+      module _ (v2 : Operand) (w2 : (firstOf (walkChecks b (geometryStart b)) ≡ none) × (v2 ≡ operandOf b)) where
+        same1 : tooSmall (runsOfBlob a) f1 n1 ≡ tooSmallFor (v1 .coords) (v1 .runs) f1 n1
+        same1 = rw (w1 .1)
+
+        same2 : tooSmall (runsOfBlob b) f2 n2 ≡ tooSmallFor (v2 .coords) (v2 .runs) f2 n2
+        same2 = rw (w2 .1)
+
+        pub by-first-room : (r : Refusal) → (tooSmallFor (v1 .coords) (v1 .runs) f1 n1 ≡ true) × (r ≡ sided 1 15) → checked.Refused r ≡ checkedOf a b f1 n1 f2 n2
+        by-first-room r t = refused-by r 1 15 (t .1) (first-room a b f1 n1 f2 n2 (h .first) (h .second) (w1 .0) (w2 .0) (same1 ∙ t .0))
+
+        module _ (t1 : tooSmallFor (v1 .coords) (v1 .runs) f1 n1 ≡ false) where
+          pub by-second-room : (r : Refusal) → (tooSmallFor (v2 .coords) (v2 .runs) f2 n2 ≡ true) × (r ≡ sided 2 15) → checked.Refused r ≡ checkedOf a b f1 n1 f2 n2
+          by-second-room r t = refused-by r 2 15 (t .1) (second-room a b f1 n1 f2 n2 (h .first) (h .second) (w1 .0) (w2 .0) (same1 ∙ t1) (same2 ∙ t .0))
+
+          pub by-none : tooSmallFor (v2 .coords) (v2 .runs) f2 n2 ≡ false → checked.Accepted (record { first = v1; second = v2; srid = v1 .srid }) ≡ checkedOf a b f1 n1 f2 n2
+          unfolding checkedBy
+          by-none t = rw (w1 .1, w2 .1) (answer-is none (no-refusal a b f1 n1 f2 n2 (h .first) (h .second) (w1 .0) (w2 .0) (same1 ∙ t1) (same2 ∙ t)))

@@ -1,24 +1,19 @@
--- What the checks of one and of both operands answer: for inner contracts only. Definitions only.
+-- What the checks of both operands answer: for inner contracts only. Definitions only.
 use Prim.Native.Nat.{ℕ}
 use mathlib.Core.List.{List}
 use mathlib.Core.Option.{Option, none, some}
 use mathlib.Core.Path.{_≡_}
-use lib.ListN.{length}
 use Rattle.refusals.specs.Checks.{firstOf}
 use Rattle.refusals.specs.declared.Refusal.{Refusal}
-use Rattle.gpb.specs.Header.{geometryStart, sridOf, headerChecks3d}
-use Rattle.coords.specs.Parts.{coordinateCount}
-use Rattle.blob.specs.Blob.{walkOfBlob, runsOfBlob}
+use Rattle.gpb.specs.Header.{sridOf, headerChecks3d}
+use Rattle.blob.specs.Blob.{walkOfBlob}
+use Rattle.blob.specs.Inner.{topHeaderOf, operandOf}
+use Rattle.blob.specs.declared.TopHeader.{TopHeader}
 use Rattle.workspace.specs.Workspace.{Room}
 use Rattle.operands.specs.Operands.{operandChecks}
-use Rattle.operands.specs.declared.Operand.{Operand}
 use Rattle.operands.specs.declared.Operands.{Operands}
 use Rattle.operands.specs.declared.Checked.{Checked}
 use Rattle.operands.specs.declared.Checked.the-variants as checked
-
--- where the geometry starts, N, R
-abbrev pub operandOf : List ℕ → Operand
-operandOf s = record { at = geometryStart s; coords = coordinateCount (runsOfBlob s); runs = length (runsOfBlob s) }
 
 abbrev pub operandsOf : List ℕ → List ℕ → Operands
 operandsOf a b = record { first = operandOf a; second = operandOf b; srid = sridOf a }
@@ -31,13 +26,12 @@ checkedBy none a b = checked.Accepted (operandsOf a b)
 unfoldable pub checkedOf : List ℕ → List ℕ → ℕ → ℕ → ℕ → ℕ → Checked
 checkedOf a b f1 n1 f2 n2 = checkedBy (firstOf (operandChecks a b f1 n1 f2 n2)) a b
 
--- both headers refuse nothing; where the geometries start, and the SRID of the first
-pub record HeadersRead (a b : List ℕ) (at1 at2 srid : ℕ) : Type 0 where
+-- both headers refuse nothing, and say this
+pub record HeadersRead (a b : List ℕ) (top1 top2 : TopHeader) : Type 0 where
   pub first : firstOf (headerChecks3d a) ≡ none
   pub second : firstOf (headerChecks3d b) ≡ none
-  pub start1 : at1 ≡ geometryStart a
-  pub start2 : at2 ≡ geometryStart b
-  pub own : srid ≡ sridOf a
+  pub says1 : top1 ≡ topHeaderOf a
+  pub says2 : top2 ≡ topHeaderOf b
 
 -- both walks refuse nothing, and both workspaces have room
 pub record Ready (a b : List ℕ) (f1 n1 f2 n2 : ℕ) : Type 0 where

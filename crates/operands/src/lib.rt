@@ -1,18 +1,15 @@
 // The two blobs of an operation: checked in document 01's order, then read into lent memory.
-use coords::Counts;
-use gpb::Header;
+use blob::HeaderRead;
+use blob::Lent;
+use blob::Operand;
+use blob::OperandRead;
+use blob::RoomChecked;
+use blob::TopHeader;
 use refusals::Refusal;
 ghost use mathlib.Core.Path.{_≡_};
 ghost use lib.ListN.{length};
 ghost use Rattle.operands.specs.Operands.{workspaces, filled};
 ghost use Rattle.operands.specs.Inner.{checkedOf, operandsOf, HeadersRead, Ready};
-
-// Where a blob's geometry starts, its coordinates and runs.
-pub struct Operand {
-    pub at: usize,
-    pub coords: usize,
-    pub runs: usize,
-}
 
 // Both operands, and the SRID's bits of the first.
 pub struct Operands {
@@ -30,56 +27,29 @@ pub enum Checked {
 fn check_walks(
     a: &[u8],
     b: &[u8],
-    at1: usize,
-    at2: usize,
-    srid: u32,
-    floats1: usize,
-    numbers1: usize,
-    floats2: usize,
-    numbers2: usize,
+    top1: TopHeader,
+    top2: TopHeader,
+    lent1: Lent,
+    lent2: Lent,
 ) -> Checked
-    requires { ⌜ HeadersRead (now a) (now b) at1 at2 srid ⌝ }
-    ensures { λ r. ⌜ r ≡ checkedOf (now (a .entry)) (now (b .entry)) floats1 numbers1 floats2 numbers2 ⌝ }
+    requires { ⌜ HeadersRead (now a) (now b) top1 top2 ⌝ }
+    ensures { λ r. ⌜ r ≡ checkedOf (now (a .entry)) (now (b .entry)) (lent1 .floats) (lent1 .numbers) (lent2 .floats) (lent2 .numbers) ⌝ }
 {
-    match coords::count(a, at1) {
-        Counts::Refused(number) => Checked::Refused(Refusal { number, side: 1 }),
-        Counts::Accepted {
-            coords: coords1,
-            runs: runs1,
-            end: end1,
-        } => match coords::count(b, at2) {
-            Counts::Refused(number) => Checked::Refused(Refusal { number, side: 2 }),
-            Counts::Accepted {
-                coords: coords2,
-                runs: runs2,
-                end: end2,
-            } => {
-                if workspace::too_small(coords1, runs1, floats1, numbers1) {
-                    return Checked::Refused(Refusal {
-                        number: 15,
-                        side: 1,
-                    });
-                }
-                if workspace::too_small(coords2, runs2, floats2, numbers2) {
-                    return Checked::Refused(Refusal {
-                        number: 15,
-                        side: 2,
-                    });
-                }
-                Checked::Accepted(Operands {
-                    first: Operand {
-                        at: at1,
-                        coords: coords1,
-                        runs: runs1,
-                    },
-                    second: Operand {
-                        at: at2,
-                        coords: coords2,
-                        runs: runs2,
-                    },
-                    srid,
-                })
-            }
+    match blob::read_walk(a, top1, 1) {
+        OperandRead::Refused(refusal) => Checked::Refused(refusal),
+        OperandRead::Read(first) => match blob::read_walk(b, top2, 2) {
+            OperandRead::Refused(refusal) => Checked::Refused(refusal),
+            OperandRead::Read(second) => match blob::check_room(first, lent1, 1) {
+                RoomChecked::Refused(refusal) => Checked::Refused(refusal),
+                RoomChecked::Enough => match blob::check_room(second, lent2, 2) {
+                    RoomChecked::Refused(refusal) => Checked::Refused(refusal),
+                    RoomChecked::Enough => Checked::Accepted(Operands {
+                        first,
+                        second,
+                        srid: first.srid,
+                    }),
+                },
+            },
         },
     }
 }
@@ -95,19 +65,21 @@ pub fn check(
 ) -> Checked
     ensures { λ r. ⌜ r ≡ checkedOf (now (a .entry)) (now (b .entry)) floats1 numbers1 floats2 numbers2 ⌝ }
 {
-    match gpb::read_header_3d(a) {
-        Header::Refused(number) => Checked::Refused(Refusal { number, side: 1 }),
-        Header::Found {
-            at: at1,
-            code: code1,
-            srid,
-        } => match gpb::read_header_3d(b) {
-            Header::Refused(number) => Checked::Refused(Refusal { number, side: 2 }),
-            Header::Found {
-                at: at2,
-                code: code2,
-                srid: srid2,
-            } => check_walks(a, b, at1, at2, srid, floats1, numbers1, floats2, numbers2),
+    match blob::read_header_3d(a, 1) {
+        HeaderRead::Refused(refusal) => Checked::Refused(refusal),
+        HeaderRead::Found(top1) => match blob::read_header_3d(b, 2) {
+            HeaderRead::Refused(refusal) => Checked::Refused(refusal),
+            HeaderRead::Found(top2) => {
+                let lent1 = Lent {
+                    floats: floats1,
+                    numbers: numbers1,
+                };
+                let lent2 = Lent {
+                    floats: floats2,
+                    numbers: numbers2,
+                };
+                check_walks(a, b, top1, top2, lent1, lent2)
+            }
         },
     }
 }

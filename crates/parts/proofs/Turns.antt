@@ -29,11 +29,11 @@ length-points floats at (suc n) = ap suc (length-points floats (at + 1) n)
 -- the table from run r on
 pub table-next : (table : List ℕ) (r : ℕ) → r < runCount table → drop (numbersPerRun * r) table ≡ kindAt table r ∷ countAt table r ∷ drop (numbersPerRun * (r + 1)) table
 table-next table r h =
-    let e : suc (2 * r) ≡ 2 * r + 1 = omega arith in
-    let f : suc (2 * r + 1) ≡ 2 * (r + 1) = omega arith in
-    let a : 2 * r < length table = omega arith in
-    let b : 2 * r + 1 < length table = omega arith in
-    rw (drop-cons table (2 * r) 0 a, e, drop-cons table (2 * r + 1) 0 b, f)
+    let e : suc (numbersPerRun * r) ≡ numbersPerRun * r + 1 = omega arith in
+    let f : suc (numbersPerRun * r + 1) ≡ numbersPerRun * (r + 1) = omega arith in
+    let a : numbersPerRun * r < length table = omega arith in
+    let b : numbersPerRun * r + 1 < length table = omega arith in
+    rw (drop-cons table (numbersPerRun * r) 0 a, e, drop-cons table (numbersPerRun * r + 1) 0 b, f)
 
 module _ (table : List ℕ) (r : ℕ) (h : r < runCount table) where
   pub runs-next : (floats : List Float) (at : ℕ) → runsFrom floats at (drop (numbersPerRun * r) table) ≡ run (kindAt table r) (pointsFrom floats at (countAt table r)) ∷ runsFrom floats (at + countAt table r) (drop (numbersPerRun * (r + 1)) table)
@@ -51,7 +51,7 @@ none-short floats at (k ∷ []) h = refl
 none-short floats at (k ∷ n ∷ table) h = absurd (omega arith)
 
 pub runs-none : (floats : List Float) (at : ℕ) (table : List ℕ) (r : ℕ) → runCount table ≤ r → runsFrom floats at (drop (numbersPerRun * r) table) ≡ []
-runs-none floats at table r h = none-short floats at (drop (numbersPerRun * r) table) (omega (arith, length-drop (2 * r) table))
+runs-none floats at table r h = none-short floats at (drop (numbersPerRun * r) table) (omega (arith, length-drop (numbersPerRun * r) table))
 
 -- there is a float for each ordinate of each run from r on, whose points start at place at
 abbrev pub RoomFrom : List ℕ → List Float → ℕ → ℕ → Type 0

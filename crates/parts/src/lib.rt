@@ -1,5 +1,7 @@
 // What a workspace holds: runs, by kind and count, and their points.
 use primitives::Point;
+use workspace::FLOATS_PER_COORDINATE;
+use workspace::NUMBERS_PER_RUN;
 ghost use mathlib.Core.Path.{_≡_};
 ghost use Prim.Native.Nat.{_+_, _*_, _≤_, _<_};
 ghost use lib.ListN.{length};
@@ -31,21 +33,21 @@ pub fn run_class(kind: u32) -> u32
 pub fn run_count(table: &[u32]) -> usize
     ensures { λ r. ⌜ r ≡ runCount (now (table .entry)) ⌝ }
 {
-    table.len() / 2
+    table.len() / NUMBERS_PER_RUN
 }
 
 pub fn kind_at(table: &[u32], r: usize) -> u32
     requires { ⌜ r < runCount (now table) ⌝ }
     ensures { λ k. ⌜ k ≡ kindAt (now (table .entry)) r ⌝ }
 {
-    table[2 * r]
+    table[NUMBERS_PER_RUN * r]
 }
 
 pub fn count_at(table: &[u32], r: usize) -> usize
     requires { ⌜ r < runCount (now table) ⌝ }
     ensures { λ n. ⌜ n ≡ countAt (now (table .entry)) r ⌝ }
 {
-    let n = table[2 * r + 1];
+    let n = table[NUMBERS_PER_RUN * r + 1];
     n as usize
 }
 
@@ -54,7 +56,7 @@ pub fn point_at(floats: &[f64], i: usize) -> Point
     requires { ⌜ floatsPerCoordinate * (i + 1) ≤ length (now floats) ⌝ }
     ensures { λ p. ⌜ p ≡ pointAt (now (floats .entry)) i ⌝ }
 {
-    let at = 3 * i;
+    let at = FLOATS_PER_COORDINATE * i;
     Point {
         x: floats[at],
         y: floats[at + 1],

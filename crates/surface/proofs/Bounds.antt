@@ -12,7 +12,8 @@ use Rattle.gpb.specs.Header.{headerOf}
 use Rattle.gpb.specs.declared.Header.{Header}
 use Rattle.gpb.specs.declared.Header.the-variants as top
 use Rattle.gpb.proofs.HeaderLaws.{accepted}
-use Rattle.coords.specs.Walk.{Parsed, ok, refused, kindOf, consParsed, andThen, times, listAt, headerAt, lineAt, ringsAt}
+use Rattle.fields.specs.TypeCode.{kindOf}
+use Rattle.coords.specs.Walk.{Parsed, ok, refused, consParsed, andThen, times, listAt, headerAt, lineAt, ringsAt}
 use Rattle.coords.specs.declared.ParsedHeader.{ParsedHeader}
 use Rattle.coords.specs.declared.ParsedHeader.the-variants as header
 use Rattle.coords.proofs.Each.{Each, each-at}

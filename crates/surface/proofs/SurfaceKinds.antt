@@ -5,7 +5,7 @@ use native.Mathlib.Omega.{arith}
 use borrow.Author.Tests.{ne-eqb, eqb-false}
 use mathlib.Core.Bool.{Bool, true, false, _||_}
 use lib.Dec.{eqb}
-use Rattle.coords.specs.Walk.{kindOf}
+use Rattle.fields.specs.TypeCode.{kindOf}
 use Rattle.surface.specs.Patches.{kindByType}
 use Rattle.surface.specs.declared.SurfaceKind.the-variants as kind
 

@@ -8,7 +8,8 @@ use lib.Dec.{eqb}
 use Rattle.gpb.specs.Header.{headerOf}
 use Rattle.gpb.specs.declared.Header.{Header}
 use Rattle.gpb.specs.declared.Header.the-variants as top
-use Rattle.coords.specs.Walk.{Parsed, ok, refused, kindOf, headerAt, listAt, ringsAt}
+use Rattle.fields.specs.TypeCode.{kindOf}
+use Rattle.coords.specs.Walk.{Parsed, ok, refused, headerAt, listAt, ringsAt}
 use Rattle.coords.specs.declared.ParsedHeader.{ParsedHeader}
 use Rattle.coords.specs.declared.ParsedHeader.the-variants as header
 use Rattle.surface.specs.declared.SurfaceKind.{SurfaceKind}

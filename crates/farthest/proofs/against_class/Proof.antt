@@ -7,7 +7,8 @@ use borrow.Author.Needs.{needs}
 use Rattle.parts.proofs.Turns.{RoomFrom, room-start, room-run, room-next}
 use Rattle.parts.specs.Stored.{storedRuns}
 use Rattle.extremes.specs.Farthest.{farthestFrom}
-use Rattle.farthest.specs.Inner.{pairOf, Sound, classVertices}
+use Rattle.extremes.specs.InnerBest.{bestOf, Sound}
+use Rattle.farthest.specs.Inner.{classVertices}
 use Rattle.farthest.proofs.Appended.{from-append}
 use Rattle.farthest.proofs.ClassTurns.{classFrom, class-start, class-end, class-taken, class-passed}
 use Rattle.farthest.proofs.against_class.Statement.{statement}
@@ -15,7 +16,7 @@ use Rattle.farthest.proofs.against_class.Tie as tie
 
 abbrev Inv-loop : tie.InvT-loop
 Inv-loop p floats table class runs b₀ at₀ r₀ b at r =
-    (farthestFrom (classFrom class table floats r at) (pairOf b) p ≡ farthestFrom (classVertices class (storedRuns table floats)) (pairOf b₀) p)
+    (farthestFrom (classFrom class table floats r at) (bestOf b) p ≡ farthestFrom (classVertices class (storedRuns table floats)) (bestOf b₀) p)
     × Sound b
     × RoomFrom table floats r at
 

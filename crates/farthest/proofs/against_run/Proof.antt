@@ -10,15 +10,15 @@ use Rattle.parts.specs.Stored.{pointsFrom}
 use Rattle.primitives.specs.Witnesses.{betweenOf}
 use Rattle.extremes.specs.Sweeps.{taking, longer}
 use Rattle.extremes.specs.Farthest.{farthestFrom}
-use Rattle.farthest.specs.Inner.{pairOf, Sound, Keeps}
-use Rattle.farthest.proofs.BestPair.{no-greater-left}
+use Rattle.extremes.specs.InnerBest.{bestOf, Sound, Keeps}
+use Rattle.farthest.proofs.OfferedPair.{no-greater-left}
 use Rattle.farthest.proofs.PointTurns.{from-done, from-next}
 use Rattle.farthest.proofs.against_run.Statement.{statement}
 use Rattle.farthest.proofs.against_run.Tie as tie
 
 abbrev Inv-loop : tie.InvT-loop
 Inv-loop p floats first count b₀ at₀ left₀ b at left =
-    (farthestFrom (pointsFrom floats at left) (pairOf b) p ≡ farthestFrom (pointsFrom floats first count) (pairOf b₀) p)
+    (farthestFrom (pointsFrom floats at left) (bestOf b) p ≡ farthestFrom (pointsFrom floats first count) (bestOf b₀) p)
     × Sound b
     × (floatsPerCoordinate * (at + left) ≤ length floats)
 
@@ -35,7 +35,7 @@ dist-sq-requires : tie.Need-dist-sq-requires Inv-loop μ-loop
 dist-sq-requires c κs = search needs
 
 offer-requires : tie.Need-offer-requires Inv-loop μ-loop
-offer-requires c κs = (c .before .before .before .before .before .loop .inv .1, c .before .before .dist-sq .ensures)
+offer-requires c κs = (c .before .before .before .before .before .loop .inv .1, (c .before .before .dist-sq .ensures, c .if1 .left))
 
 add-at : tie.Need-add-at Inv-loop μ-loop
 add-at c = omega arith
@@ -50,9 +50,9 @@ loop-again : tie.Need-loop-again Inv-loop μ-loop
 loop-again c =
     let turn = c .before .before .before .before .before in
     let q = c .before .before .before .point-at in
-    let offered : Keeps (c .if1 .b) (taking longer (pairOf (turn .loop .b)) (betweenOf (turn .before .before .args .p) (q .result))) =
+    let offered : Keeps (c .if1 .b) (taking longer (bestOf (turn .loop .b)) (betweenOf (turn .before .before .args .p) (q .result))) =
     ⊎-elim
-    (λ w. rw (w .1) (no-greater-left _ _ _ _ (c .before .before .dist-sq .ensures) (turn .loop .inv .1) (w .0 .taken)))
+    (λ w. rw (w .1) (no-greater-left _ _ _ _ _ (c .before .before .dist-sq .ensures) refl (turn .loop .inv .1) (w .0 .taken)))
     (λ w. rw (w .2) (w .1 .ensures))
     (c .if1 .came) in
     (rw (offered .same, q .ensures) (sym (from-next _ _ _ (c .before .before .before .before .loop-test .taken) _ _) ∙ turn .loop .inv .0), offered .sound, omega arith)

@@ -2,7 +2,6 @@
 use lib.Ieee.{ofBits}
 use borrow.Author.Needs.{needs}
 use Rattle.extremes.specs.Farthest.{noFarther}
-use Rattle.farthest.specs.Inner.{pairOf}
 use Rattle.farthest.proofs.no_farther.Statement.{statement}
 use Rattle.farthest.proofs.no_farther.Tie as tie
 
@@ -13,11 +12,11 @@ max-dist-sq-requires : tie.Need-max-dist-sq-requires
 max-dist-sq-requires c κs = search needs
 
 returns : tie.Need-returns
-unfolding noFarther pairOf ofBits
+unfolding noFarther ofBits
 returns c = rw (c .if1 .taken)
 
 returns-2 : tie.Need-returns-2
-unfolding noFarther pairOf ofBits
+unfolding noFarther ofBits
 returns-2 c = rw (c .before .before .if1 .left, ← c .before .point .ensures, ← c .max-dist-sq .ensures)
 
 pub no-farther-spec : {M : Type 1} → statement M

@@ -14,35 +14,29 @@ occurring-requires-2 c κs = search needs
 box-all-requires : tie.Need-box-all-requires
 box-all-requires c κs = search needs
 
-none-yet-requires : tie.Need-none-yet-requires
-none-yet-requires c κs = search needs
-
 visit-occurring-requires : tie.Need-visit-occurring-requires
 visit-occurring-requires c κs =
-    let found = c .before .before in
+    let found = c .before in
     let start = found .before .before .before .before .before .before in
-    (c .none-yet .ensures .sound, (start .pre .0, (found .before .occurring .ensures .points, (start .pre .1, found .occurring2 .ensures))))
+    (start .pre .0, (start .pre .1 .0, (found .before .occurring .ensures .points, (start .pre .1 .1, found .occurring2 .ensures))))
 
 visit-occurring-requires-2 : tie.Need-visit-occurring-requires-2
 visit-occurring-requires-2 c κs =
-    let found = c .before .before .before in
+    let found = c .before .before in
     let start = found .before .before .before .before .before .before in
-    (c .visit-occurring .ensures .sound, (start .pre .0, (found .before .occurring .ensures .lines, (start .pre .1, found .occurring2 .ensures))))
+    (c .visit-occurring .ensures .sound, (start .pre .1 .0, (found .before .occurring .ensures .lines, (start .pre .1 .1, found .occurring2 .ensures))))
 
 visit-occurring-requires-3 : tie.Need-visit-occurring-requires-3
 visit-occurring-requires-3 c κs =
-    let found = c .before .before .before .before in
+    let found = c .before .before .before in
     let start = found .before .before .before .before .before .before in
-    (c .visit-occurring2 .ensures .sound, (start .pre .0, (found .before .occurring .ensures .faces, (start .pre .1, found .occurring2 .ensures))))
+    (c .visit-occurring2 .ensures .sound, (start .pre .1 .0, (found .before .occurring .ensures .faces, (start .pre .1 .1, found .occurring2 .ensures))))
 
 returns : tie.Need-returns
 unfolding sweptOnce verticesOnce
 returns c =
-    rw (← c .before .before .before .before .box-all .ensures)
-    (swept-classes _ _ _ _ _ _ _ _ _
-    (rw (c .before .before .before .none-yet .ensures .same) at (c .before .before .visit-occurring .ensures))
-    (c .before .visit-occurring2 .ensures)
-    (c .visit-occurring3 .ensures))
+    rw (← c .before .before .before .box-all .ensures)
+    (swept-classes _ _ _ _ _ _ _ _ _ (c .before .before .visit-occurring .ensures) (c .before .visit-occurring2 .ensures) (c .visit-occurring3 .ensures))
 
 pub visit-all-spec : {M : Type 1} → statement M
 visit-all-spec =
@@ -51,7 +45,6 @@ visit-all-spec =
     occurring-requires
     occurring-requires-2
     box-all-requires
-    none-yet-requires
     visit-occurring-requires
     visit-occurring-requires-2
     visit-occurring-requires-3

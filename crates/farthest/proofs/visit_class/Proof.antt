@@ -7,21 +7,22 @@ use borrow.Author.Needs.{needs}
 use Rattle.parts.proofs.Turns.{RoomFrom, room-start, room-run, room-next}
 use Rattle.parts.specs.Stored.{storedRuns}
 use Rattle.extremes.specs.Sweeps.{skipping}
-use Rattle.farthest.specs.Inner.{pairOf, Sound, classVertices, verticesOnce, swept}
+use Rattle.extremes.specs.InnerBest.{bestOf, Sound}
+use Rattle.farthest.specs.Inner.{classVertices, verticesOnce, swept}
 use Rattle.farthest.proofs.Appended.{swept-append}
 use Rattle.farthest.proofs.ClassTurns.{classFrom, class-start, class-end, class-taken, class-passed}
 use Rattle.farthest.proofs.visit_class.Statement.{statement}
 use Rattle.farthest.proofs.visit_class.Tie as tie
 
 abbrev Inv-loop : tie.InvT-loop
-Inv-loop floats1 table1 class floats2 table2 has around runs b₀ at₀ r₀ b at r =
-    (swept around (verticesOnce (storedRuns table2 floats2)) (pairOf b) (classFrom class table1 floats1 r at)
-    ≡ swept around (verticesOnce (storedRuns table2 floats2)) (pairOf b₀) (classVertices class (storedRuns table1 floats1)))
+Inv-loop floats1 table1 class floats2 table2 outline runs b₀ at₀ r₀ b at r =
+    (swept (outline .bounds) (verticesOnce (storedRuns table2 floats2)) (bestOf b) (classFrom class table1 floats1 r at)
+    ≡ swept (outline .bounds) (verticesOnce (storedRuns table2 floats2)) (bestOf b₀) (classVertices class (storedRuns table1 floats1)))
     × Sound b
     × RoomFrom table1 floats1 r at
 
 abbrev μ-loop : tie.MeasureT-loop
-μ-loop floats1 table1 class floats2 table2 has around runs b₀ at₀ r₀ b at r = runs - r
+μ-loop floats1 table1 class floats2 table2 outline runs b₀ at₀ r₀ b at r = runs - r
 
 run-count-requires : tie.Need-run-count-requires Inv-loop μ-loop
 run-count-requires c κs = search needs
@@ -62,14 +63,14 @@ loop-again c =
     (λ w. rw (w .2) (
       rw (w .1 .ensures .same) (sym (class-taken (start .args .table1 .now) (start .args .floats1 .now) (turn .loop .r) (turn .loop .at) _ _ _
           (c .before .before .count-at .ensures) (c .before .class-at .ensures) (turn .before .run-count .ensures) (c .before .before .before .loop-test .taken)
-          (swept (start .args .around) (verticesOnce (storedRuns (start .args .table2 .now) (start .args .floats2 .now)))) (swept-append (start .args .around) (verticesOnce (storedRuns (start .args .table2 .now) (start .args .floats2 .now)))) _ _ (w .0 .taken)) ∙ turn .loop .inv .0),
+          (swept (start .args .outline .bounds) (verticesOnce (storedRuns (start .args .table2 .now) (start .args .floats2 .now)))) (swept-append (start .args .outline .bounds) (verticesOnce (storedRuns (start .args .table2 .now) (start .args .floats2 .now)))) _ _ (w .0 .taken)) ∙ turn .loop .inv .0),
       w .1 .ensures .sound,
       room,
     ))
     (λ w. rw (w .1) (
       sym (class-passed (start .args .table1 .now) (start .args .floats1 .now) (turn .loop .r) (turn .loop .at) _ _ _
           (c .before .before .count-at .ensures) (c .before .class-at .ensures) (turn .before .run-count .ensures) (c .before .before .before .loop-test .taken)
-          (swept (start .args .around) (verticesOnce (storedRuns (start .args .table2 .now) (start .args .floats2 .now)))) (swept-append (start .args .around) (verticesOnce (storedRuns (start .args .table2 .now) (start .args .floats2 .now)))) _ _ (w .0 .left)) ∙ turn .loop .inv .0,
+          (swept (start .args .outline .bounds) (verticesOnce (storedRuns (start .args .table2 .now) (start .args .floats2 .now)))) (swept-append (start .args .outline .bounds) (verticesOnce (storedRuns (start .args .table2 .now) (start .args .floats2 .now)))) _ _ (w .0 .left)) ∙ turn .loop .inv .0,
       turn .loop .inv .1,
       room,
     ))

@@ -5,20 +5,21 @@ use native.Mathlib.Omega.{arith}
 use lib.ListN.{length}
 use Rattle.workspace.specs.Workspace.{floatsPerCoordinate}
 use Rattle.parts.specs.Stored.{pointsFrom, storedRuns}
-use Rattle.farthest.specs.Inner.{pairOf, Sound, verticesOnce, swept}
+use Rattle.extremes.specs.InnerBest.{bestOf, Sound}
+use Rattle.farthest.specs.Inner.{verticesOnce, swept}
 use Rattle.farthest.proofs.PointTurns.{swept-done, swept-next}
 use Rattle.farthest.proofs.visit_run.Statement.{statement}
 use Rattle.farthest.proofs.visit_run.Tie as tie
 
 abbrev Inv-loop : tie.InvT-loop
-Inv-loop floats1 first count floats2 table2 has around b₀ at₀ left₀ b at left =
-    (swept around (verticesOnce (storedRuns table2 floats2)) (pairOf b) (pointsFrom floats1 at left)
-    ≡ swept around (verticesOnce (storedRuns table2 floats2)) (pairOf b₀) (pointsFrom floats1 first count))
+Inv-loop floats1 first count floats2 table2 outline b₀ at₀ left₀ b at left =
+    (swept (outline .bounds) (verticesOnce (storedRuns table2 floats2)) (bestOf b) (pointsFrom floats1 at left)
+    ≡ swept (outline .bounds) (verticesOnce (storedRuns table2 floats2)) (bestOf b₀) (pointsFrom floats1 first count))
     × Sound b
     × (floatsPerCoordinate * (at + left) ≤ length floats1)
 
 abbrev μ-loop : tie.MeasureT-loop
-μ-loop floats1 first count floats2 table2 has around b₀ at₀ left₀ b at left = left
+μ-loop floats1 first count floats2 table2 outline b₀ at₀ left₀ b at left = left
 
 loop-holds : tie.Need-loop-holds Inv-loop μ-loop
 loop-holds c = (refl, c .before .before .before .pre .0, c .before .before .before .pre .1 .0)

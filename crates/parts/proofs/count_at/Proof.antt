@@ -2,6 +2,7 @@
 use Prim.Native.Nat.{_+_, _*_}
 use native.Mathlib.Omega.{arith}
 use borrow.Author.Needs.{needs}
+use Rattle.workspace.specs.Workspace.{numbersPerRun}
 use Rattle.parts.proofs.count_at.Statement.{statement}
 use Rattle.parts.proofs.count_at.Tie as tie
 
@@ -18,7 +19,7 @@ shared-slice-read-n : tie.Need-shared-slice-read-n
 shared-slice-read-n c = search needs
 
 cast-result : tie.Need-cast-result
-cast-result c = omega (arith, c .shared-slice-known .given (2 * c .before .args .r + 1))
+cast-result c = omega (arith, c .shared-slice-known .given (numbersPerRun * c .before .args .r + 1))
 
 returns : tie.Need-returns
 returns c = search needs
