@@ -14,6 +14,7 @@ use Rattle.refusals.specs.declared.Refusal.{Refusal}
 use Rattle.refusals.proofs.Checks.{given-exactly}
 use Rattle.refusals.proofs.Sides.{sided, first-on-side, first-of-two, first-of-one, none-of-both}
 use Rattle.gpb.specs.Header.{geometryStart, sridOf, headerChecks, refusedOr, headerOf}
+use Rattle.gpb.specs.Written.{pointBytes}
 use Rattle.gpb.specs.declared.Header.{Header}
 use Rattle.gpb.specs.declared.Header.the-variants as header
 use Rattle.gpb.proofs.HeaderLaws.{refused-exactly}
@@ -29,7 +30,7 @@ use Rattle.workspace.specs.Workspace.{tooSmall, tooSmallFor}
 use Rattle.workspace.proofs.Laws.{not-too-small}
 use Rattle.blob.specs.Blob.{walkOfBlob, runsOfBlob}
 use Rattle.outcomes.specs.Operations.{noSide}
-use Rattle.interpolation.specs.Operation.{outOfRange, isNoLine, pointBytes, interpolationChecks}
+use Rattle.interpolation.specs.Operation.{outOfRange, isNoLine, interpolationChecks}
 use Rattle.interpolation.specs.Inner.{Counted, checkedBy, checkedOf, Ready}
 use Rattle.interpolation.specs.declared.Checked.{Checked}
 use Rattle.interpolation.specs.declared.Checked.the-variants as checked

@@ -7,7 +7,7 @@ use native.Mathlib.Omega.{arith}
 use lib.ListN.{length, take, drop}
 use lib.Ieee.{Float}
 use Rattle.refusals.specs.declared.Refusal.{Refusal}
-use Rattle.gpb.specs.Written.{pointBlob}
+use Rattle.gpb.specs.Written.{pointBytes, pointBlob}
 use Rattle.coords.specs.Walk.{walkOf, allLevels}
 use Rattle.coords.specs.Parts.{mapRuns, walkedRuns}
 use Rattle.workspace.specs.Workspace.{floatsPerCoordinate, numbersPerRun, Room, Written}
@@ -21,7 +21,7 @@ use Rattle.outcomes.specs.Operations.{outcome, unless}
 use Rattle.outcomes.proofs.Handed.{Handed}
 use Rattle.outcomes.proofs.Handed as both
 use Rattle.interpolation.specs.Interpolation.{segmentsOf, interpolatedPoint}
-use Rattle.interpolation.specs.Operation.{pointBytes, pointOfBlob, outputWith, filledOne, lineInterpolatePoint}
+use Rattle.interpolation.specs.Operation.{pointOfBlob, outputWith, filledOne, lineInterpolatePoint}
 use Rattle.interpolation.specs.Inner.{checkedOf, Ready, PointRead}
 use Rattle.interpolation.specs.declared.Checked.{Checked}
 use Rattle.interpolation.specs.declared.Checked.the-variants as checked

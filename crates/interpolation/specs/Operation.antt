@@ -11,7 +11,7 @@ use Rattle.ieee754.specs.MinMax.{positiveZero, one}
 use Rattle.refusals.specs.Checks.{Check, check, firstOf, onSide}
 use Rattle.refusals.specs.declared.Refusal.{Refusal}
 use Rattle.gpb.specs.Header.{geometryStart, sridOf, headerChecks}
-use Rattle.gpb.specs.Written.{pointBlob}
+use Rattle.gpb.specs.Written.{pointBytes, pointBlob}
 use Rattle.coords.specs.Parts.{Run, run, mapRuns, isPoint, isFace}
 use Rattle.coords.specs.Refusals.{walkChecks}
 use Rattle.workspace.specs.Workspace.{tooSmall, floatsWith, tableWith}
@@ -39,10 +39,6 @@ hasPointOrFace (run kind cs ∷ rs) = (isPoint kind || isFace kind) || hasPointO
 -- 14: a point or face, or no segment
 unfoldable pub isNoLine : {A : Type 0} → List (Run A) → Bool
 isNoLine rs = hasPointOrFace rs || eqb (length (segmentsOf rs)) 0
-
--- the bytes of a point blob
-abbrev pub pointBytes : ℕ
-pointBytes = 37
 
 -- ---- the order: 2; the header, 3 to 10, with no Z test; the walk; 14; 15; 16
 

@@ -4,6 +4,7 @@
 use coords::Counts;
 use coords::ParsedHeader;
 use gpb::Header;
+use gpb::POINT_BYTES;
 use primitives::Point;
 use refusals::Refusal;
 use workspace::FLOATS_PER_COORDINATE;
@@ -67,9 +68,6 @@ struct Search {
     pub start: Point,
     pub end: Point,
 }
-
-// The bytes of a point blob.
-const POINT_BYTES: usize = 37;
 
 // The kind of a line.
 const LINE: u32 = 2;

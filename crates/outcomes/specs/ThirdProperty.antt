@@ -8,6 +8,7 @@ use lib.ListN.{take, getElem?}
 use lib.Ieee.{Float}
 use Rattle.refusals.specs.Checks.{firstOf}
 use Rattle.gpb.specs.Header.{headerChecks3d}
+use Rattle.gpb.specs.Written.{lineBytes}
 use Rattle.coords.specs.Walk.{Coordinate, Geometry, ok}
 use Rattle.coords.specs.Parts.{Run, run, runsOf, isLine, isFace}
 use Rattle.parts.specs.Points.{pointOf}
@@ -26,10 +27,10 @@ pub record SameBits (c d : Coordinate) : Type 0 where
 -- a line reads back as a pair: header and walk accept the output's first 65 bytes and give no run but one line run of
 -- two coordinates, whose x, y, z have the same bits as side 1's vertex, then side 2's
 pub record ReadsBack (output : List ℕ) (p : Pair Coordinate) : Type 0 where
-  pub header : firstOf (headerChecks3d (take 65 output)) ≡ none
+  pub header : firstOf (headerChecks3d (take lineBytes output)) ≡ none
   pub tree : Geometry
   pub end : ℕ
-  pub walk : walkOfBlob (take 65 output) ≡ ok tree end
+  pub walk : walkOfBlob (take lineBytes output) ≡ ok tree end
   pub start : Coordinate
   pub finish : Coordinate
   pub only-run : runsOf tree ≡ run 2 (start ∷ finish ∷ []) ∷ []

@@ -3,6 +3,8 @@
 // Undecided in its contracts is only the payload, sign included, of a NaN in a workspace or in an answered number;
 // output bytes are wholly decided.
 use extremes::ExtremePair;
+use gpb::LINE_BYTES;
+use gpb::POINT_BYTES;
 use operands::Checked;
 use operands::Operands;
 use outcomes::Answer;
@@ -17,15 +19,10 @@ ghost use lib.ListN.{length};
 ghost use Rattle.outcomes.specs.Lent.{lent, left};
 ghost use Rattle.operands.specs.Inner.{operandsOf, Ready};
 ghost use Rattle.outcomes.specs.Answers.{nothing, blob, answering, answerReport, decisionReport, writtenReport};
-ghost use Rattle.outcomes.specs.Operations.{outcome, distance, within, intersects, closestPoint, shortestLine};
+ghost use Rattle.outcomes.specs.Operations.{outcome, closestPair, distance, within, intersects};
+ghost use Rattle.outcomes.specs.Operations.{closestPoint, shortestLine};
+ghost use Rattle.outcomes.specs.Inner.{PairRead};
 ghost use Rattle.outcomes.specs.ThirdProperty.{ShortestOfPoints};
-ghost use Rattle.threed_closest.specs.Inner.{ClosestRead};
-
-// The bytes of a point.
-const POINT_BYTES: usize = 37;
-
-// The bytes of a line.
-const LINE_BYTES: usize = 65;
 
 // The closest pair of the items of two accepted blobs, once they are read into lent memory.
 fn closest_pair(
@@ -41,8 +38,8 @@ fn closest_pair(
     requires { ⌜ o ≡ operandsOf (now a) (now b) ⌝ }
     requires { ⌜ Ready (now a) (now b)
         (length (now floats1)) (length (now table1)) (length (now floats2)) (length (now table2)) ⌝ }
-    ensures { λ r. ⌜ ClosestRead (now (a .entry)) (now (b .entry)) (lent floats1 table1 floats2 table2)
-        (left floats1 table1 floats2 table2) r ⌝ }
+    ensures { λ r. ⌜ PairRead (closestPair (now (a .entry)) (now (b .entry))) (now (a .entry)) (now (b .entry))
+        (lent floats1 table1 floats2 table2) (left floats1 table1 floats2 table2) r ⌝ }
 {
     let first = o.first;
     let second = o.second;
@@ -60,14 +57,15 @@ fn closest_pair(
     )
 }
 
-// The least distance of an item of side 1 from one of side 2.
-pub fn st_3d_distance(
+// The least distance of an item of side 1 from one of side 2. Nothing is less than 0, so the sweep may stop there.
+fn least_distance(
     a: &[u8],
     b: &[u8],
     floats1: &mut [f64],
     table1: &mut [u32],
     floats2: &mut [f64],
     table2: &mut [u32],
+    stop_at_zero: bool,
 ) -> Answer
     ensures whole_outcome { λ r. ⌜ outcome (answerReport r) (left floats1 table1 floats2 table2) []
         ≡ distance (now (a .entry)) (now (b .entry)) (lent floats1 table1 floats2 table2) ⌝ }
@@ -89,12 +87,27 @@ pub fn st_3d_distance(
             table1,
             floats2,
             table2,
-            false,
+            stop_at_zero,
         ) {
             ExtremePair::Nothing => Answer::Nothing,
             ExtremePair::Found(w) => Answer::Measured(w.d),
         },
     }
+}
+
+// The least distance of an item of side 1 from one of side 2.
+pub fn st_3d_distance(
+    a: &[u8],
+    b: &[u8],
+    floats1: &mut [f64],
+    table1: &mut [u32],
+    floats2: &mut [f64],
+    table2: &mut [u32],
+) -> Answer
+    ensures whole_outcome { λ r. ⌜ outcome (answerReport r) (left floats1 table1 floats2 table2) []
+        ≡ distance (now (a .entry)) (now (b .entry)) (lent floats1 table1 floats2 table2) ⌝ }
+{
+    least_distance(a, b, floats1, table1, floats2, table2, false)
 }
 
 // Whether the distance is at most d.
@@ -136,31 +149,13 @@ pub fn st_3d_intersects(
     ensures whole_outcome { λ r. ⌜ outcome (decisionReport r) (left floats1 table1 floats2 table2) []
         ≡ intersects (now (a .entry)) (now (b .entry)) (lent floats1 table1 floats2 table2) ⌝ }
 {
-    match operands::check(
-        a,
-        b,
-        floats1.len(),
-        table1.len(),
-        floats2.len(),
-        table2.len(),
-    ) {
-        Checked::Refused(refusal) => Decision::Refused(refusal),
-        Checked::Accepted(o) => match closest_pair(
-            a,
-            b,
-            o,
-            floats1,
-            table1,
-            floats2,
-            table2,
-            true,
-        ) {
-            ExtremePair::Nothing => Decision::No,
-            ExtremePair::Found(w) => if w.d == 0.0 {
-                Decision::Yes
-            } else {
-                Decision::No
-            },
+    match least_distance(a, b, floats1, table1, floats2, table2, true) {
+        Answer::Refused(refusal) => Decision::Refused(refusal),
+        Answer::Nothing => Decision::No,
+        Answer::Measured(least) => if least == 0.0 {
+            Decision::Yes
+        } else {
+            Decision::No
         },
     }
 }

@@ -3,6 +3,7 @@
 // Undecided in its contracts is only the payload, sign included, of a NaN in a workspace or in an answered number;
 // output bytes are wholly decided.
 use extremes::ExtremePair;
+use gpb::LINE_BYTES;
 use operands::Checked;
 use operands::Operands;
 use outcomes::Answer;
@@ -17,12 +18,9 @@ ghost use lib.ListN.{length};
 ghost use Rattle.outcomes.specs.Lent.{lent, left};
 ghost use Rattle.operands.specs.Inner.{operandsOf, Ready};
 ghost use Rattle.outcomes.specs.Answers.{nothing, blob, answering, answerReport, decisionReport, writtenReport};
-ghost use Rattle.outcomes.specs.Operations.{outcome, maxDistance, fullyWithin, longestLine};
+ghost use Rattle.outcomes.specs.Operations.{outcome, farthestPair, maxDistance, fullyWithin, longestLine};
+ghost use Rattle.outcomes.specs.Inner.{PairRead};
 ghost use Rattle.outcomes.specs.ThirdProperty.{LongestOfAll};
-ghost use Rattle.threed_farthest.specs.Inner.{FarthestRead};
-
-// The bytes of a line.
-const LINE_BYTES: usize = 65;
 
 // The farthest pair of the vertices of two accepted blobs, once they are read into lent memory.
 fn farthest_pair(
@@ -37,8 +35,8 @@ fn farthest_pair(
     requires { ⌜ o ≡ operandsOf (now a) (now b) ⌝ }
     requires { ⌜ Ready (now a) (now b)
         (length (now floats1)) (length (now table1)) (length (now floats2)) (length (now table2)) ⌝ }
-    ensures { λ r. ⌜ FarthestRead (now (a .entry)) (now (b .entry)) (lent floats1 table1 floats2 table2)
-        (left floats1 table1 floats2 table2) r ⌝ }
+    ensures { λ r. ⌜ PairRead (farthestPair (now (a .entry)) (now (b .entry))) (now (a .entry)) (now (b .entry))
+        (lent floats1 table1 floats2 table2) (left floats1 table1 floats2 table2) r ⌝ }
 {
     let first = o.first;
     let second = o.second;

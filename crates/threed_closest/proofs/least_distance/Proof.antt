@@ -1,12 +1,11 @@
--- `threed_closest::st_3d_distance` meets its contract. Assumes nothing.
+-- `threed_closest::least_distance` meets its contract. Assumes nothing.
 use Rattle.operands.specs.Operands.{workspaces}
 use Rattle.outcomes.specs.Answers.{answerReport}
 use Rattle.outcomes.specs.Operations.{closestPair, distanceValue, distance}
-use Rattle.outcomes.proofs.Outcomes.{refused-first, accepted, measure-refused, measure-answered}
-use Rattle.threed_closest.proofs.Pair.{closest-told}
+use Rattle.outcomes.proofs.Outcomes.{told, refused-first, accepted, measure-refused, measure-answered}
 use borrow.Author.Needs.{needs}
-use Rattle.threed_closest.proofs.st_3d_distance.Statement.{statement}
-use Rattle.threed_closest.proofs.st_3d_distance.Tie as tie
+use Rattle.threed_closest.proofs.least_distance.Statement.{statement}
+use Rattle.threed_closest.proofs.least_distance.Tie as tie
 
 check-requires : tie.Need-check-requires
 check-requires c κs = search needs
@@ -56,7 +55,7 @@ returns-2 c =
     let w = workspaces (e .args .floats1 .now) (e .args .table1 .now) (e .args .floats2 .now) (e .args .table2 .now) in
     let s = accepted (e .args .a .now) (e .args .b .now) w _ (c .before .before .before .before .before .before .before .before .before .before .before .before .before .before .before .before .before .before .check .ensures) _ ((c .before .before .before .before .before .before .before .before .before .before .before .before .before .before .before .before .o .given) .1) in
     let read = c .before .before .before .before .before .before .before .before .before .before .closest-pair .ensures in
-    measure-answered (e .args .a .now) (e .args .b .now) (closestPair (e .args .a .now) (e .args .b .now)) distanceValue w (s .none-holds) _ (read .memory) _ (closest-told (e .args .a .now) (e .args .b .now) w _ _ read _ ((c .enum-told .given) .1))
+    measure-answered (e .args .a .now) (e .args .b .now) (closestPair (e .args .a .now) (e .args .b .now)) distanceValue w (s .none-holds) _ (read .memory) _ (told _ _ _ (read .found) ((c .enum-told .given) .1))
 
 same-length-5 : tie.Need-same-length-5
 same-length-5 c = c .before .before .before .before .before .before .before .before .before .before .before .closest-pair .kept .1 .1 .1 .0
@@ -77,10 +76,10 @@ returns-3 c =
     let w = workspaces (e .args .floats1 .now) (e .args .table1 .now) (e .args .floats2 .now) (e .args .table2 .now) in
     let s = accepted (e .args .a .now) (e .args .b .now) w _ (c .before .before .before .before .before .before .before .before .before .before .before .before .before .before .before .before .before .before .before .check .ensures) _ ((c .before .before .before .before .before .before .before .before .before .before .before .before .before .before .before .before .before .o .given) .1) in
     let read = c .before .before .before .before .before .before .before .before .before .before .before .closest-pair .ensures in
-    measure-answered (e .args .a .now) (e .args .b .now) (closestPair (e .args .a .now) (e .args .b .now)) distanceValue w (s .none-holds) _ (read .memory) _ (closest-told (e .args .a .now) (e .args .b .now) w _ _ read _ ((c .before .w .given) .1))
+    measure-answered (e .args .a .now) (e .args .b .now) (closestPair (e .args .a .now) (e .args .b .now)) distanceValue w (s .none-holds) _ (read .memory) _ (told _ _ _ (read .found) ((c .before .w .given) .1))
 
-pub st-3d-distance-spec : {M : Type 1} → statement M
-st-3d-distance-spec =
+pub least-distance-spec : {M : Type 1} → statement M
+least-distance-spec =
     tie.close
     (tie.spec
     check-requires
