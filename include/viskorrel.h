@@ -94,6 +94,15 @@ typedef struct viskorrel_pair {
 viskorrel_pair viskorrel_sizes(const uint8_t *blob, size_t length);
 
 /*
+ * The coordinates and runs of a blob, read into a workspace as every operation does: first is how many floats were filled, 3N, second
+ * how many numbers of the table, 2R. The kind of a run is 1 for a point, 2 for a line, 3 for a ring, 17 for a triangle's ring. The blob
+ * needs no Z: one that it does not have is 0. The outcome is never nothing.
+ * Lent: the blob, a workspace for it. Changed: the workspace. Refusals: 3 to 12, 15.
+ */
+viskorrel_pair viskorrel_read(
+    const uint8_t *blob, size_t length, double *floats, size_t floats_length, uint32_t *table, size_t table_length);
+
+/*
  * LEAST DISTANCE. Each point, segment and triangle of a is measured against each of b. A line of n vertices has n - 1 segments. Every ring,
  * a hole too, is a filled face: a fan of triangles from its first vertex, none if it has under 3 vertices. A segment that passes through a
  * triangle is measured at its ends and at the triangle's edges. There is none where a or b has no point, segment or triangle.

@@ -44,6 +44,15 @@ pub struct Sizes {
     pub table: usize,
 }
 
+/// A blob's coordinates and runs, in the order of its bytes.
+#[derive(Clone, Debug, PartialEq)]
+pub struct Read {
+    /// x, y, z of each coordinate. A Z that the blob does not have is 0.
+    pub floats: Vec<f64>,
+    /// Kind and number of coordinates of each run: of each point (1), line (2), ring (3) and triangle's ring (17) that has one.
+    pub table: Vec<u32>,
+}
+
 /// What was found for a patch of a surface.
 #[derive(Clone, Copy, Debug, PartialEq, Eq)]
 pub enum Patch<'a> {
@@ -59,6 +68,14 @@ pub enum Patch<'a> {
 pub fn sizes(blob: &[u8]) -> Result<Sizes, Refusal> {
     let pair = c::sizes(blob);
     pair.answered().map(|_| Sizes { floats: pair.first, table: pair.second })
+}
+
+/// A blob's coordinates and runs. Whether its type has Z is not asked. Refusals: 3 to 12.
+pub fn read(blob: &[u8]) -> Result<Read, Refusal> {
+    let Sizes { floats, table } = sizes(blob)?;
+    let mut workspace = c::Workspace { floats: vec![0.0; floats], table: vec![0; table] };
+    c::read(blob, &mut workspace).answered()?;
+    Ok(Read { floats: workspace.floats, table: workspace.table })
 }
 
 /// Patch `n` of a surface, counted from 0. A triangle is its own patch 0, to the blob's end. Every patch is scanned: [`patches`] scans each

@@ -38,7 +38,7 @@ fn f05_point_to_segment() {
 fn f06_segments_apart() {
     let (a, b) = (line(&[O, [4.0, 0.0, 0.0]]), line(&[[2.0, -1.0, 3.0], [2.0, 1.0, 3.0]]));
     assert_eq!(st_3d_distance(&a, &b), Ok(Some(3.0)));
-    assert_eq!(read(&st_3d_shortest_line(&a, &b).unwrap().unwrap()), [[2.0, 0.0, 0.0], [2.0, 0.0, 3.0]]);
+    assert_eq!(vertices(&st_3d_shortest_line(&a, &b).unwrap().unwrap()), [[2.0, 0.0, 0.0], [2.0, 0.0, 3.0]]);
 }
 
 #[test]
@@ -103,7 +103,7 @@ fn f12_face_of_two_vertices() {
     let (a, b) = (polygon(&[&[O, [0.0, 3.0, 4.0]]]), point(O));
     assert_eq!(st_3d_distance(&a, &b), Ok(None));
     assert_eq!(st_3d_max_distance(&a, &b), Ok(Some(5.0)));
-    assert_eq!(read(&st_3d_longest_line(&a, &b).unwrap().unwrap()), [[0.0, 3.0, 4.0], O]);
+    assert_eq!(vertices(&st_3d_longest_line(&a, &b).unwrap().unwrap()), [[0.0, 3.0, 4.0], O]);
 }
 
 #[test]
@@ -115,7 +115,7 @@ fn f13_nan_is_not_none() {
     // written as 7FF8000000000000, whatever came in
     let odd = f64::from_bits(0xFFF0_0000_0000_0001);
     let written = st_3d_closest_point(&point([odd, 1.0, odd]), &b).unwrap().unwrap();
-    assert_eq!(read(&written)[0].map(f64::to_bits), [0x7FF8_0000_0000_0000, 1f64.to_bits(), 0x7FF8_0000_0000_0000]);
+    assert_eq!(vertices(&written)[0].map(f64::to_bits), [0x7FF8_0000_0000_0000, 1f64.to_bits(), 0x7FF8_0000_0000_0000]);
 }
 
 #[test]

@@ -32,16 +32,16 @@ module _ (fraction : Float) where
 
 -- ---- t
 
-module _ (rest length : Float) where
-  part-is : (b : Bool) → eq length positiveZero ≡ b → cond b positiveZero (clampOf (div binary64 rest length)) ≡ partOf rest length
+module _ (rest whole : Float) where
+  part-is : (b : Bool) → eq whole positiveZero ≡ b → cond b positiveZero (clampOf (div binary64 rest whole)) ≡ partOf rest whole
   unfolding partOf
-  part-is b e = sym (ap (λ (t : Bool). cond t positiveZero (clampOf (div binary64 rest length))) e)
+  part-is b e = sym (ap (λ (t : Bool). cond t positiveZero (clampOf (div binary64 rest whole))) e)
 
-  pub part-of-none : eq length (ofBits binary64 0) ≡ true → ofBits binary64 0 ≡ partOf rest length
+  pub part-of-none : eq whole (ofBits binary64 0) ≡ true → ofBits binary64 0 ≡ partOf rest whole
   unfolding ofBits
   part-of-none e = part-is true e
 
-  pub part-of-some : (t : Float) → eq length (ofBits binary64 0) ≡ false → t ≡ clampOf (div binary64 rest length) → t ≡ partOf rest length
+  pub part-of-some : (t : Float) → eq whole (ofBits binary64 0) ≡ false → t ≡ clampOf (div binary64 rest whole) → t ≡ partOf rest whole
   unfolding ofBits
   part-of-some t e f = f ∙ part-is false e
 

@@ -6,3 +6,4 @@ pub mod Cases
 pub mod Order
 pub mod Outcome
 pub mod Report
+pub mod Alike

@@ -13,6 +13,7 @@ use Rattle.refusals.specs.Checks.{Check, check, firstOf, onSide}
 use Rattle.refusals.specs.declared.Refusal.{Refusal}
 use Rattle.refusals.proofs.Sides.{sided, first-on-side, first-of-two, first-of-one, none-of-both}
 use Rattle.gpb.specs.Header.{geometryStart, sridOf, headerChecks}
+use Rattle.gpb.specs.Written.{pointBytes}
 use Rattle.coords.specs.Parts.{coordinateCount}
 use Rattle.coords.specs.Refusals.{walkChecks}
 use Rattle.coords.proofs.Refusals.{none-given-is-accepted}
@@ -22,7 +23,8 @@ use Rattle.blob.specs.Blob.{runsOfBlob}
 use Rattle.blob.specs.Inner.{operandOf}
 use Rattle.blob.specs.declared.Operand.{Operand}
 use Rattle.blob.proofs.Steps.{Given}
-use Rattle.interpolation.specs.Operation.{outOfRange, isNoLine, pointBytes, noSide, interpolationChecks}
+use Rattle.outcomes.specs.Operations.{noSide}
+use Rattle.interpolation.specs.Operation.{outOfRange, isNoLine, interpolationChecks}
 use Rattle.interpolation.specs.Inner.{noLineBy, checkedBy, checkedOf, Ready}
 use Rattle.interpolation.specs.declared.Checked.{Checked}
 use Rattle.interpolation.specs.declared.Checked.the-variants as checked

@@ -1,68 +1,32 @@
 -- What the call answers and leaves is the definition's outcome; and what the search is handed is the part of the workspace that was written. Assumes nothing.
-use mathlib.Core.Path.{_≡_, sym, ap, subst}
-use mathlib.Core.List.{List, [], _++_, append-nil}
-use mathlib.Core.Option.{Option, none, some}
-use Prim.Native.Nat.{ℕ, _*_, _<_, _≤_}
+use mathlib.Core.Path.{_≡_, ap, subst}
+use mathlib.Core.List.{List, _++_}
+use mathlib.Core.Option.{some}
+use Prim.Native.Nat.{ℕ, _*_, _<_}
 use native.Mathlib.Omega.{arith}
-use lib.ListN.{length, take, drop, length-append}
-use lib.Seq.{take-append-seam}
+use lib.ListN.{length, take, drop}
 use lib.Ieee.{Float}
-use Rattle.refusals.specs.Checks.{firstOf}
 use Rattle.refusals.specs.declared.Refusal.{Refusal}
-use Rattle.gpb.specs.Written.{pointBlob}
-use Rattle.coords.specs.Walk.{Coordinate, walkOf, allLevels}
-use Rattle.coords.specs.Parts.{Run, mapRuns, walkedRuns, coordinateCount}
-use Rattle.workspace.specs.Workspace.{floatsPerCoordinate, numbersPerRun, floatsNeeded, numbersNeeded, floatsOf, tableOf, floatsWith, tableWith, Room, Written}
-use Rattle.workspace.proofs.Contents.{length-floats, length-table}
+use Rattle.gpb.specs.Written.{pointBytes, pointBlob}
+use Rattle.coords.specs.Walk.{walkOf, allLevels}
+use Rattle.coords.specs.Parts.{mapRuns, walkedRuns}
+use Rattle.workspace.specs.Workspace.{floatsPerCoordinate, numbersPerRun, Room, Written}
 use Rattle.blob.specs.Blob.{runsOfBlob}
 use Rattle.parts.specs.Points.{pointOf}
-use Rattle.parts.specs.Stored.{storedRuns, Laid}
-use Rattle.parts.proofs.Filled.{stored-written, laid-written}
+use Rattle.parts.specs.Stored.{storedRuns}
 use Rattle.primitives.specs.declared.Point.{Point}
+use Rattle.operands.specs.Operands.{Workspaces, workspaces}
+use Rattle.outcomes.specs.Answers.{blob, answering, refusing}
+use Rattle.outcomes.specs.Operations.{outcome, unless}
+use Rattle.outcomes.proofs.Handed.{Handed}
+use Rattle.outcomes.proofs.Handed as both
 use Rattle.interpolation.specs.Interpolation.{segmentsOf, interpolatedPoint}
-use Rattle.interpolation.specs.Operation.{pointBytes, interpolationChecks, refused, written, outcome, pointOfBlob, outputWith, outcomeBy, interpolationOutcome}
+use Rattle.interpolation.specs.Operation.{pointOfBlob, outputWith, filledOne, lineInterpolatePoint}
 use Rattle.interpolation.specs.Inner.{checkedOf, Ready, PointRead}
 use Rattle.interpolation.specs.declared.Checked.{Checked}
 use Rattle.interpolation.specs.declared.Checked.the-variants as checked
 use Rattle.interpolation.proofs.Lines.{segments-map, has-segment}
 use Rattle.interpolation.proofs.Order.{refused-is-first, IsAccepted}
-
--- ---- what the search is handed
-
-module _ (rs : List (Run Coordinate)) (floats : List Float) (table : List ℕ) where
-  first-floats : take (floatsNeeded rs) (floatsWith rs floats) ≡ floatsOf rs
-  unfolding floatsWith
-  first-floats = rw (← length-floats rs) (take-append-seam (floatsOf rs) (drop (length (floatsOf rs)) floats))
-
-  first-numbers : take (numbersNeeded rs) (tableWith rs table) ≡ tableOf rs
-  unfolding tableWith
-  first-numbers = rw (← length-table rs) (take-append-seam (tableOf rs) (drop (length (tableOf rs)) table))
-
-  enough-floats : floatsNeeded rs ≤ length (floatsWith rs floats)
-  unfolding floatsWith
-  enough-floats = simp length-append (omega (arith, length-floats rs))
-
-  enough-numbers : numbersNeeded rs ≤ length (tableWith rs table)
-  unfolding tableWith
-  enough-numbers = simp length-append (omega (arith, length-table rs))
-
-pub record Handed (s : List ℕ) (coords runs : ℕ) (floats : List Float) (table : List ℕ) : Type 0 where
-  pub for-floats : floatsPerCoordinate * coords ≤ length floats
-  pub for-numbers : numbersPerRun * runs ≤ length table
-  pub laid : Laid (take (numbersPerRun * runs) table) (take (floatsPerCoordinate * coords) floats)
-  pub segments : segmentsOf (storedRuns (take (numbersPerRun * runs) table) (take (floatsPerCoordinate * coords) floats)) ≡ segmentsOf (mapRuns pointOf (runsOfBlob s))
-
-handed-with : (s : List ℕ) (floats : List Float) (table : List ℕ) → Handed s (coordinateCount (runsOfBlob s)) (length (runsOfBlob s)) (floatsWith (runsOfBlob s) floats) (tableWith (runsOfBlob s) table)
-handed-with s floats table =
-    let rs = runsOfBlob s in
-    let f = first-floats rs floats table in
-    let n = first-numbers rs floats table in
-    record {
-      for-floats = enough-floats rs floats table;
-      for-numbers = enough-numbers rs floats table;
-      laid = rw (f, n, ← append-nil (floatsOf rs)) (laid-written rs []);
-      segments = rw (f, n, ← append-nil (floatsOf rs)) (ap segmentsOf (stored-written rs []));
-    }
 
 -- ---- the blob, once it is read
 
@@ -75,28 +39,25 @@ module _ (s : List ℕ) (at coords runs : ℕ) (fs : List Float) (ts : List ℕ)
     written-at = subst (λ (i : ℕ). Written (walkedRuns (walkOf allLevels s i)) fs ts fs′ ts′) (ready .start) full
 
     pub handed : Handed s coords runs fs′ ts′
-    handed = rw (ready .coordinates, ready .number, written-at .ordinates, written-at .rows) (handed-with s fs ts)
+    handed = rw (ready .coordinates, ready .number, written-at .ordinates, written-at .rows) (both.handed s fs ts)
+
+    segments : segmentsOf (storedRuns (take (numbersPerRun * runs) ts′) (take (floatsPerCoordinate * coords) fs′)) ≡ segmentsOf (mapRuns pointOf (runsOfBlob s))
+    segments = ap segmentsOf (handed .runs-stored)
 
     pub some-segment : 0 < length (segmentsOf (storedRuns (take (numbersPerRun * runs) ts′) (take (floatsPerCoordinate * coords) fs′)))
-    some-segment = rw (handed .segments) (omega (arith, segments-map pointOf (runsOfBlob s), has-segment (runsOfBlob s) (ready .line)))
+    some-segment = rw segments (omega (arith, segments-map pointOf (runsOfBlob s), has-segment (runsOfBlob s) (ready .line)))
 
     pub point-read : (fraction : Float) (p : Point) → interpolatedPoint fraction (segmentsOf (storedRuns (take (numbersPerRun * runs) ts′) (take (floatsPerCoordinate * coords) fs′))) ≡ some p → PointRead s fraction fs ts fs′ ts′ p
     unfolding pointOfBlob
-    point-read fraction p e = record { point = rw (handed .segments) at e; memory = written-at }
+    point-read fraction p e = record { point = rw segments at e; memory = written-at }
 
 -- ---- the outcome
 
-module _ (s : List ℕ) (fraction : Float) (fs : List Float) (ts out : List ℕ) where
-  by-first : (x : Option Refusal) → firstOf (interpolationChecks s fraction (length fs) (length ts) (length out)) ≡ x → outcomeBy x s fraction fs ts out ≡ interpolationOutcome s fraction fs ts out
-  unfolding interpolationOutcome
-  by-first x e = sym (ap (λ (y : Option Refusal). outcomeBy y s fraction fs ts out) e)
+module _ (s : List ℕ) (fraction : Float) (w : Workspaces) (out : List ℕ) where
+  pub outcome-refused : (r : Refusal) (o : Checked) → o ≡ checkedOf s fraction (length (w .floats1)) (length (w .table1)) (length out) → o ≡ checked.Refused r → outcome (refusing r) w out ≡ lineInterpolatePoint s fraction w out
+  unfolding lineInterpolatePoint unless
+  outcome-refused r o p q = rw (refused-is-first s fraction (length (w .floats1)) (length (w .table1)) (length out) r o p q)
 
-  pub outcome-refused : (r : Refusal) (o : Checked) → o ≡ checkedOf s fraction (length fs) (length ts) (length out) → o ≡ checked.Refused r → outcome (refused (r .number) (r .side)) fs ts out ≡ interpolationOutcome s fraction fs ts out
-  unfolding outcomeBy
-  outcome-refused r o p q = by-first (some r) (refused-is-first s fraction (length fs) (length ts) (length out) r o p q)
-
-  pub outcome-written : (at coords runs srid : ℕ) → IsAccepted s fraction (length fs) (length ts) (length out) at coords runs srid → (fs′ : List Float) (ts′ : List ℕ) (p : Point) → PointRead s fraction fs ts fs′ ts′ p → (out′ : List ℕ) → out′ ≡ pointBlob srid (p .x) (p .y) (p .z) ++ drop pointBytes out → outcome written fs′ ts′ out′ ≡ interpolationOutcome s fraction fs ts out
-  unfolding outcomeBy outputWith
-  outcome-written at coords runs srid a fs′ ts′ p read out′ e =
-      let b = by-first none (a .none-first) in
-      rw (read .memory .ordinates, read .memory .rows, e, a .own) (rw (read .point) at b)
+  pub outcome-written : (at coords runs srid : ℕ) → IsAccepted s fraction (length (w .floats1)) (length (w .table1)) (length out) at coords runs srid → (fs : List Float) (ts : List ℕ) (p : Point) → PointRead s fraction (w .floats1) (w .table1) fs ts p → (out′ : List ℕ) → out′ ≡ pointBlob srid (p .x) (p .y) (p .z) ++ drop pointBytes out → outcome (answering blob) (workspaces fs ts (w .floats2) (w .table2)) out′ ≡ lineInterpolatePoint s fraction w out
+  unfolding lineInterpolatePoint unless filledOne outputWith
+  outcome-written at coords runs srid a fs ts p read out′ e = rw (a .none-first, read .memory .ordinates, read .memory .rows, e, a .own, read .point)

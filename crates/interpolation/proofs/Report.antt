@@ -1,59 +1,36 @@
 -- What a call reports: by the blob, the fraction and the lengths lent alone, and each refusal exactly when the table gives it. Assumes nothing.
-use mathlib.Core.Path.{_≡_, refl, sym, ap, _∙_}
+use mathlib.Core.Path.{_≡_, refl, ap}
 use mathlib.Core.Logic.{_↔_}
 use mathlib.Core.List.{List, [], _∷_}
-use mathlib.Core.Option.{Option, none, some}
+use mathlib.Core.Option.{none, some}
 use Prim.Native.Nat.{ℕ}
 use native.Mathlib.Omega.{arith}
 use lib.ListN.{length}
 use lib.Ieee.{Float}
-use Rattle.refusals.specs.Checks.{Check, firstOf, FirstAt}
+use Rattle.refusals.specs.Checks.{firstOf}
 use Rattle.refusals.specs.declared.Refusal.{Refusal}
-use Rattle.refusals.proofs.Checks.{given-exactly}
 use Rattle.coords.specs.Parts.{mapRuns}
 use Rattle.blob.specs.Blob.{runsOfBlob}
 use Rattle.parts.specs.Points.{pointOf}
 use Rattle.primitives.specs.declared.Point.{Point}
+use Rattle.operands.specs.Operands.{Workspaces}
+use Rattle.outcomes.specs.Answers.{refusing}
+use Rattle.outcomes.proofs.Lengths.{SameLengths, same-report}
+use Rattle.outcomes.proofs.RefusedExactly.{First, exactly}
 use Rattle.interpolation.specs.Interpolation.{Segment, segmentsOf, totalOf, pointAlong, interpolatedPoint}
-use Rattle.interpolation.specs.Operation.{interpolationChecks, Report, written, refused, pointOfBlob, outcomeBy, interpolationOutcome}
+use Rattle.interpolation.specs.Operation.{interpolationChecks, pointOfBlob, checksOfLent, lineInterpolatePoint}
 use Rattle.interpolation.proofs.Lines.{segments-map, has-segment}
 use Rattle.interpolation.proofs.Order.{none-holds}
 
-reportBy : Option Refusal → Report
-reportBy (some r) = refused (r .number) (r .side)
-reportBy none = written
-
-report-is : (x : Option Refusal) (s : List ℕ) (fraction : Float) (fs : List Float) (ts out : List ℕ) → outcomeBy x s fraction fs ts out .report ≡ reportBy x
-unfolding outcomeBy reportBy
-report-is (some r) s fraction fs ts out = refl
-report-is none s fraction fs ts out = refl
-
--- the report is that of the first check that holds
-reported : (s : List ℕ) (fraction : Float) (fs : List Float) (ts out : List ℕ) → interpolationOutcome s fraction fs ts out .report ≡ reportBy (firstOf (interpolationChecks s fraction (length fs) (length ts) (length out)))
-unfolding interpolationOutcome
-reported s fraction fs ts out = report-is (firstOf (interpolationChecks s fraction (length fs) (length ts) (length out))) s fraction fs ts out
-
 -- what the lent memory holds changes no report: its lengths alone matter
-pub report-by-lengths : (s : List ℕ) (fraction : Float) (fs fs′ : List Float) (ts ts′ out out′ : List ℕ) → length fs ≡ length fs′ → length ts ≡ length ts′ → length out ≡ length out′ → interpolationOutcome s fraction fs ts out .report ≡ interpolationOutcome s fraction fs′ ts′ out′ .report
-report-by-lengths s fraction fs fs′ ts ts′ out out′ p q r = reported s fraction fs ts out ∙ (rw (p, q, r) (sym (reported s fraction fs′ ts′ out′)))
+pub report-by-lengths : (s : List ℕ) (fraction : Float) (w v : Workspaces) (out out′ : List ℕ) → SameLengths w v → length out ≡ length out′ → lineInterpolatePoint s fraction w out .report ≡ lineInterpolatePoint s fraction v out′ .report
+unfolding lineInterpolatePoint
+report-by-lengths s fraction w v out out′ same e = same-report _ _ _ _ _ _ _ _ _ _ _ (rw (same .floats1, same .table1, e))
 
 -- a refusal is reported exactly when a check gives it whose condition holds, and no earlier one holds
-pub refused-exactly : (s : List ℕ) (fraction : Float) (fs : List Float) (ts out : List ℕ) (number side : ℕ) → (interpolationOutcome s fraction fs ts out .report ≡ refused number side) ↔ ((i : ℕ) × (c : Check Refusal) × FirstAt (interpolationChecks s fraction (length fs) (length ts) (length out)) (record { number = number; side = side }) i c)
-unfolding reportBy
-refused-exactly s fraction fs ts out number side = (λ h. given-exactly checks r .0 (first (firstOf checks) refl (sym (reported s fraction fs ts out) ∙ h)), λ f. reported s fraction fs ts out ∙ ap reportBy (given-exactly checks r .1 f))
-  where
-    checks : List (Check Refusal)
-    checks = interpolationChecks s fraction (length fs) (length ts) (length out)
-
-    r : Refusal
-    r = record { number = number; side = side }
-
-    first : (x : Option Refusal) → firstOf checks ≡ x → reportBy x ≡ refused number side → firstOf checks ≡ some r
-    first (some q) e h = let n : q .number ≡ number = cc in let m : q .side ≡ side = cc in e ∙ ap some (same q n m)
-      where
-        same : (q : Refusal) → q .number ≡ number → q .side ≡ side → q ≡ record { number = number; side = side }
-        same q n m = rw (← n, ← m)
-    first none e h = let z : _≡_ {A = ℕ} 0 1 = cc in absurd (omega arith)
+pub refused-exactly : (s : List ℕ) (fraction : Float) (w : Workspaces) (out : List ℕ) (r : Refusal) → (lineInterpolatePoint s fraction w out .report ≡ refusing r) ↔ First (checksOfLent s fraction w out) r
+unfolding lineInterpolatePoint
+refused-exactly s fraction w out r = exactly (checksOfLent s fraction w out) r _ _ w _ out
 
 -- a call that refuses nothing has a point
 pub accepted-has-point : (s : List ℕ) (fraction : Float) (floats numbers output : ℕ) → firstOf (interpolationChecks s fraction floats numbers output) ≡ none → (p : Point) × (pointOfBlob s fraction ≡ some p)

@@ -50,7 +50,7 @@ totalOf gs = foldl withLength positiveZero gs
 
 -- t: (fraction × total - walked) / length, clamped, or 0 where the length is 0
 unfoldable pub partOf : Float → Float → Float
-partOf rest length = cond (eq length positiveZero) positiveZero (clampOf (div binary64 rest length))
+partOf rest whole = cond (eq whole positiveZero) positiveZero (clampOf (div binary64 rest whole))
 
 -- start + t × (end - start) per axis; `walked` is what was walked before the segment, `target` is fraction × total
 unfoldable pub pointOn : Float → Float → Segment Point → Point

@@ -11,12 +11,15 @@ use Rattle.ieee754.specs.MinMax.{positiveZero, one}
 use Rattle.refusals.specs.Checks.{Check, check, firstOf, onSide}
 use Rattle.refusals.specs.declared.Refusal.{Refusal}
 use Rattle.gpb.specs.Header.{geometryStart, sridOf, headerChecks}
-use Rattle.gpb.specs.Written.{pointBlob}
+use Rattle.gpb.specs.Written.{pointBytes, pointBlob}
 use Rattle.coords.specs.Parts.{Run, run, mapRuns, isPoint, isFace}
 use Rattle.coords.specs.Refusals.{walkChecks}
 use Rattle.workspace.specs.Workspace.{tooSmall, floatsWith, tableWith}
 use Rattle.blob.specs.Blob.{runsOfBlob}
 use Rattle.parts.specs.Points.{pointOf}
+use Rattle.operands.specs.Operands.{Workspaces, workspaces}
+use Rattle.outcomes.specs.Answers.{blob, Report, refusing, answering}
+use Rattle.outcomes.specs.Operations.{Outcome, outcome, noSide, unless}
 use Rattle.primitives.specs.declared.Point.{Point}
 use Rattle.interpolation.specs.Interpolation.{segmentsOf, interpolatedPoint}
 use Rattle.interpolation.specs.declared.Interpolated.{Interpolated}
@@ -37,15 +40,7 @@ hasPointOrFace (run kind cs ∷ rs) = (isPoint kind || isFace kind) || hasPointO
 unfoldable pub isNoLine : {A : Type 0} → List (Run A) → Bool
 isNoLine rs = hasPointOrFace rs || eqb (length (segmentsOf rs)) 0
 
--- the bytes of a point blob
-abbrev pub pointBytes : ℕ
-pointBytes = 37
-
 -- ---- the order: 2; the header, 3 to 10, with no Z test; the walk; 14; 15; 16
-
--- a refusal of neither blob: side 0
-abbrev pub noSide : ℕ → Refusal
-noSide number = record { number = number; side = 0 }
 
 -- `floats`, `numbers` and `output` are the lengths lent
 unfoldable pub interpolationChecks : List ℕ → Float → ℕ → ℕ → ℕ → List (Check Refusal)
@@ -57,28 +52,12 @@ interpolationChecks s fraction floats numbers output =
     ++ (onSide 1 (check 15 (tooSmall (runsOfBlob s) floats numbers) ∷ [])
     ++ (check (noSide 16) (ltb output pointBytes) ∷ [])))))
 
--- ---- what is reported
-
--- a point in the output, or a refusal: the table's number and the side
-pub data Report : Type 0 where
-  written : Report
-  refused : ℕ → ℕ → Report
-
-unfoldable pub reportOf : Interpolated → Report
-reportOf interpolated.Blob = written
-reportOf (interpolated.Refused r) = refused (r .number) (r .side)
-
 -- ---- the outcome
 
--- what a call answers and leaves
-pub record Outcome : Type 0 where
-  pub report : Report
-  pub floats : List Float
-  pub table : List ℕ
-  pub output : List ℕ
-
-abbrev pub outcome : Report → List Float → List ℕ → List ℕ → Outcome
-outcome r floats table output = record { report = r; floats = floats; table = table; output = output }
+-- a point in the output, or a refusal
+unfoldable pub reportOf : Interpolated → Report
+reportOf interpolated.Blob = answering blob
+reportOf (interpolated.Refused r) = refusing r
 
 -- the point of a blob's line runs; none where they have no segment, which 14 refuses
 unfoldable pub pointOfBlob : List ℕ → Float → Option Point
@@ -89,12 +68,16 @@ unfoldable pub outputWith : ℕ → Option Point → List ℕ → List ℕ
 outputWith srid none output = output
 outputWith srid (some p) output = pointBlob srid (p .x) (p .y) (p .z) ++ drop pointBytes output
 
--- refused: all lent memory unchanged; otherwise the workspace is filled and the point written, with the blob's SRID
-unfoldable pub outcomeBy : Option Refusal → List ℕ → Float → List Float → List ℕ → List ℕ → Outcome
-outcomeBy (some r) s fraction floats table output = outcome (refused (r .number) (r .side)) floats table output
-outcomeBy none s fraction floats table output =
-    outcome written (floatsWith (runsOfBlob s) floats) (tableWith (runsOfBlob s) table) (outputWith (sridOf s) (pointOfBlob s fraction) output)
+-- side 1's workspace once the blob is read into it
+unfoldable pub filledOne : List ℕ → Workspaces → Workspaces
+filledOne s w = workspaces (floatsWith (runsOfBlob s) (w .floats1)) (tableWith (runsOfBlob s) (w .table1)) (w .floats2) (w .table2)
 
-unfoldable pub interpolationOutcome : List ℕ → Float → List Float → List ℕ → List ℕ → Outcome
-interpolationOutcome s fraction floats table output =
-    outcomeBy (firstOf (interpolationChecks s fraction (length floats) (length table) (length output))) s fraction floats table output
+-- the checks, of the memory lent itself: its lengths alone matter
+abbrev pub checksOfLent : List ℕ → Float → Workspaces → List ℕ → List (Check Refusal)
+checksOfLent s fraction w output = interpolationChecks s fraction (length (w .floats1)) (length (w .table1)) (length output)
+
+-- st_3d_line_interpolate_point; the SRID is the blob's
+unfoldable pub lineInterpolatePoint : List ℕ → Float → Workspaces → List ℕ → Outcome
+lineInterpolatePoint s fraction w output =
+    unless (firstOf (checksOfLent s fraction w output))
+    (outcome (answering blob) (filledOne s w) (outputWith (sridOf s) (pointOfBlob s fraction) output)) w output

@@ -1,10 +1,12 @@
 // The point at a fraction of a line's length: document 01's interpolation, for every input.
-// Undecided in its contracts is only the payload, sign included, of a NaN in the workspace; output bytes are wholly decided.
+// Undecided in its contracts is only the payload, sign included, of a NaN in the workspace; output bytes are
+// wholly decided.
 use blob::HeaderRead;
 use blob::Lent;
 use blob::Operand;
 use blob::OperandRead;
 use blob::RoomChecked;
+use gpb::POINT_BYTES;
 use primitives::Point;
 use refusals::Refusal;
 use workspace::FLOATS_PER_COORDINATE;
@@ -17,9 +19,13 @@ ghost use Prim.Native.Nat.{_+_, _*_, _≤_, _<_};
 ghost use lib.ListN.{length};
 ghost use Rattle.workspace.specs.Workspace.{floatsPerCoordinate};
 ghost use Rattle.parts.specs.Stored.{pointsFrom, storedRuns, Laid};
-ghost use Rattle.interpolation.specs.Interpolation.{segment, segmentsOfLine, segmentsOf, lengthOf, partOf, pointOn, interpolatedPoint};
-ghost use Rattle.interpolation.specs.Operation.{outOfRange, reportOf, outcome, interpolationOutcome};
-ghost use Rattle.interpolation.specs.Inner.{noLineBy, checkedOf, measuring, searching, notMeasured, notSearched, Ready, PointRead};
+ghost use Rattle.outcomes.specs.Lent.{lentOne, leftOne};
+ghost use Rattle.outcomes.specs.Operations.{outcome};
+ghost use Rattle.interpolation.specs.Interpolation.{segment, segmentsOfLine, segmentsOf, lengthOf};
+ghost use Rattle.interpolation.specs.Interpolation.{partOf, pointOn, interpolatedPoint};
+ghost use Rattle.interpolation.specs.Operation.{outOfRange, reportOf, lineInterpolatePoint};
+ghost use Rattle.interpolation.specs.Inner.{noLineBy, checkedOf, measuring, searching};
+ghost use Rattle.interpolation.specs.Inner.{notMeasured, notSearched, Ready, PointRead};
 
 // A point blob in the output, or a refusal.
 pub enum Interpolated {
@@ -53,9 +59,6 @@ struct Search {
     pub start: Point,
     pub end: Point,
 }
-
-// The bytes of a point blob.
-const POINT_BYTES: usize = 37;
 
 // The kind of a line.
 const LINE: u32 = 2;
@@ -167,7 +170,8 @@ fn measure_line(from: Measured, floats: &[f64], first: usize, count: usize) -> M
 // All segments of a workspace measured, in order.
 fn measure_all(floats: &[f64], table: &[u32]) -> Measured
     requires { ⌜ Laid (now table) (now floats) ⌝ }
-    ensures { λ r. ⌜ r ≡ foldl measuring notMeasured (segmentsOf (storedRuns (now (table .entry)) (now (floats .entry)))) ⌝ }
+    ensures { λ r. ⌜ r
+        ≡ foldl measuring notMeasured (segmentsOf (storedRuns (now (table .entry)) (now (floats .entry)))) ⌝ }
 {
     let runs = parts::run_count(table);
     let zero = Point {
@@ -212,7 +216,8 @@ fn look_at(w: Search, target: f64, a: Point, b: Point) -> Search
 // The segments of a line looked at, until the search stops.
 fn search_line(from: Search, target: f64, floats: &[f64], first: usize, count: usize) -> Search
     requires { ⌜ floatsPerCoordinate * (first + count) ≤ length (now floats) ⌝ }
-    ensures { λ r. ⌜ r ≡ foldl (searching target) from (segmentsOfLine (pointsFrom (now (floats .entry)) first count)) ⌝ }
+    ensures { λ r. ⌜ r
+        ≡ foldl (searching target) from (segmentsOfLine (pointsFrom (now (floats .entry)) first count)) ⌝ }
 {
     let mut w = from;
     let mut at = first;
@@ -236,7 +241,8 @@ fn search_line(from: Search, target: f64, floats: &[f64], first: usize, count: u
 // All segments of a workspace looked at, in order, until the search stops: at the last by position, if at none before.
 fn search_all(target: f64, floats: &[f64], table: &[u32]) -> Search
     requires { ⌜ Laid (now table) (now floats) ⌝ }
-    ensures { λ r. ⌜ r ≡ foldl (searching target) notSearched (segmentsOf (storedRuns (now (table .entry)) (now (floats .entry)))) ⌝ }
+    ensures { λ r. ⌜ r
+        ≡ foldl (searching target) notSearched (segmentsOf (storedRuns (now (table .entry)) (now (floats .entry)))) ⌝ }
 {
     let runs = parts::run_count(table);
     let zero = Point {
@@ -266,13 +272,13 @@ fn search_all(target: f64, floats: &[f64], table: &[u32]) -> Search
 }
 
 // How far along a segment, as a part of its length.
-fn part(rest: f64, length: f64) -> f64
-    ensures { λ r. ⌜ r ≡ partOf rest length ⌝ }
+fn part(rest: f64, whole: f64) -> f64
+    ensures { λ r. ⌜ r ≡ partOf rest whole ⌝ }
 {
-    if length == 0.0 {
+    if whole == 0.0 {
         0.0
     } else {
-        ieee754::clamp(rest / length)
+        ieee754::clamp(rest / whole)
     }
 }
 
@@ -287,7 +293,8 @@ fn point_on(target: f64, walked: f64, a: Point, b: Point) -> Point
 fn point_along(fraction: f64, floats: &[f64], table: &[u32]) -> Point
     requires { ⌜ Laid (now table) (now floats) ⌝ }
     requires { ⌜ 0 < length (segmentsOf (storedRuns (now table) (now floats))) ⌝ }
-    ensures { λ r. ⌜ interpolatedPoint fraction (segmentsOf (storedRuns (now (table .entry)) (now (floats .entry)))) ≡ some r ⌝ }
+    ensures { λ r. ⌜ interpolatedPoint fraction (segmentsOf (storedRuns (now (table .entry)) (now (floats .entry))))
+        ≡ some r ⌝ }
 {
     let m = measure_all(floats, table);
     if m.total == 0.0 {
@@ -309,7 +316,8 @@ fn read_point(
     table: &mut [u32],
 ) -> Point
     requires { ⌜ Ready (now s) at coords runs (length (now floats)) (length (now table)) ⌝ }
-    ensures { λ p. ⌜ PointRead (now (s .entry)) fraction (now (floats .entry)) (now (table .entry)) (now (floats .exit)) (now (table .exit)) p ⌝ }
+    ensures { λ p. ⌜ PointRead (now (s .entry)) fraction
+        (now (floats .entry)) (now (table .entry)) (now (floats .exit)) (now (table .exit)) p ⌝ }
 {
     workspace::fill(s, at, floats, table);
     let ordinates = FLOATS_PER_COORDINATE * coords;
@@ -325,7 +333,8 @@ pub fn st_3d_line_interpolate_point(
     table: &mut [u32],
     output: &mut [u8],
 ) -> Interpolated
-    ensures { λ r. ⌜ outcome (reportOf r) (now (floats .exit)) (now (table .exit)) (now (output .exit)) ≡ interpolationOutcome (now (s .entry)) fraction (now (floats .entry)) (now (table .entry)) (now (output .entry)) ⌝ }
+    ensures whole_outcome { λ r. ⌜ outcome (reportOf r) (leftOne floats table) (now (output .exit))
+        ≡ lineInterpolatePoint (now (s .entry)) fraction (lentOne floats table) (now (output .entry)) ⌝ }
 {
     match check(s, fraction, floats.len(), table.len(), output.len()) {
         Checked::Refused(refusal) => Interpolated::Refused(refusal),

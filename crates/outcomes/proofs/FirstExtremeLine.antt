@@ -28,7 +28,7 @@ use Rattle.extremes.proofs.BoxOfAll.{IsBinary64, patterns-binary64}
 use Rattle.blob.specs.Blob.{walkOfBlob}
 use Rattle.blob.proofs.LineReadBack.{coordinateOf, lineGeometry, taken-line-reads-back}
 use Rattle.operands.specs.Operands.{Workspaces}
-use Rattle.outcomes.specs.Answers.{nothing, answering}
+use Rattle.outcomes.specs.Answers.{nothing, blob, answering}
 use Rattle.outcomes.specs.Operations.{outcome, unless, verticesOfBlob, blobValue, lineAfter}
 use Rattle.outcomes.specs.ThirdProperty.{SameBits, ReadsBack, FirstExtremeLine}
 
@@ -98,14 +98,14 @@ module _ (a b : List ℕ) (bytes1 : (i : ℕ) → getD a i 0 < 256) (bytes2 : (i
   sides = each-at (Sides Patterns) (pairsOf (verticesOfBlob a) (verticesOfBlob b)) (pairs-sides Patterns (verticesOfBlob a) (verticesOfBlob b) (vertices-patterns a bytes1) (vertices-patterns b bytes2))
 
   -- an answer that is the first extreme pair is written as that pair's line
-  pub first-extreme-line : FirstExtremeLine order a b (answering (blobValue answer)) (lineAfter (sridOf a) answer output)
+  pub first-extreme-line : FirstExtremeLine (answering nothing) (answering blob) order a b (answering (blobValue answer)) (lineAfter (sridOf a) answer output)
   unfolding blobValue
   first-extreme-line =
       holds-restated (nothing-exactly answer)
-      (λ k p at c is. record { reported = rw is; reads-back = rw is (pair-reads-back (sridOf a) p output (srid-fits a bytes1) (sides k p at) c) }) h
+      (λ k p at c is. record { is-told = rw is; reads-back = rw is (pair-reads-back (sridOf a) p output (srid-fits a bytes1) (sides k p at) c) }) h
 
   -- and so the outcome of an accepted call has the third property
   pub accepted-line : (first : Option Refusal) (memory lent : Workspaces) → first ≡ none
-      → (let o = unless first (outcome (answering (blobValue answer)) memory (lineAfter (sridOf a) answer output)) lent output in FirstExtremeLine order a b (o .report) (o .output))
+      → (let o = unless first (outcome (answering (blobValue answer)) memory (lineAfter (sridOf a) answer output)) lent output in FirstExtremeLine (answering nothing) (answering blob) order a b (o .report) (o .output))
   unfolding unless
   accepted-line first memory lent e = rw e first-extreme-line

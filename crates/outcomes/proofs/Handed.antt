@@ -7,9 +7,10 @@ use lib.ListN.{length, take, drop, length-append, length-take}
 use lib.Seq.{take-append-seam}
 use lib.Ieee.{Float}
 use Rattle.coords.specs.Walk.{Coordinate}
-use Rattle.coords.specs.Parts.{Run, coordinateCount, verticesOf}
+use Rattle.coords.specs.Parts.{Run, mapRuns, coordinateCount, verticesOf}
 use Rattle.workspace.specs.Workspace.{floatsPerCoordinate, numbersPerRun, floatsNeeded, numbersNeeded, floatsOf, tableOf, floatsWith, tableWith}
 use Rattle.workspace.proofs.Contents.{length-floats, length-table}
+use Rattle.parts.specs.Points.{pointOf}
 use Rattle.parts.specs.Stored.{storedRuns, Laid}
 use Rattle.parts.proofs.Filled.{laid-written, stored-written, vertices-written}
 use Rattle.items.specs.Items.{itemsOf}
@@ -47,10 +48,11 @@ pub record Handed (s : List ℕ) (coords runs : ℕ) (floats : List Float) (tabl
   pub for-floats : floatsPerCoordinate * coords ≤ length floats
   pub for-numbers : numbersPerRun * runs ≤ length table
   pub laid : Laid (take (numbersPerRun * runs) table) (take (floatsPerCoordinate * coords) floats)
+  pub runs-stored : storedRuns (take (numbersPerRun * runs) table) (take (floatsPerCoordinate * coords) floats) ≡ mapRuns pointOf (runsOfBlob s)
   pub vertices : verticesOf (storedRuns (take (numbersPerRun * runs) table) (take (floatsPerCoordinate * coords) floats)) ≡ vertexPoints s
   pub items : itemsOf (storedRuns (take (numbersPerRun * runs) table) (take (floatsPerCoordinate * coords) floats)) ≡ itemsOfBlob s
 
-handed : (s : List ℕ) (floats : List Float) (table : List ℕ) → Handed s (coordinateCount (runsOfBlob s)) (length (runsOfBlob s)) (floatsWith (runsOfBlob s) floats) (tableWith (runsOfBlob s) table)
+pub handed : (s : List ℕ) (floats : List Float) (table : List ℕ) → Handed s (coordinateCount (runsOfBlob s)) (length (runsOfBlob s)) (floatsWith (runsOfBlob s) floats) (tableWith (runsOfBlob s) table)
 handed s floats table =
     let rs = runsOfBlob s in
     let f = first-floats rs floats table in
@@ -59,6 +61,7 @@ handed s floats table =
       for-floats = enough-floats rs floats table;
       for-numbers = enough-numbers rs floats table;
       laid = rw (f, n, ← append-nil (floatsOf rs)) (laid-written rs []);
+      runs-stored = rw (f, n, ← append-nil (floatsOf rs)) (stored-written rs []);
       vertices = rw (f, n, ← append-nil (floatsOf rs)) (vertices-written rs []);
       items = rw (f, n, ← append-nil (floatsOf rs)) (ap itemsOf (stored-written rs []));
     }

@@ -19,7 +19,7 @@ pub record SameLengths (w v : Workspaces) : Type 0 where
   pub table2 : length (w .table2) ≡ length (v .table2)
 
 -- by the refusal, or the value
-same-report : (x y : Option Refusal) (r : Report) (m m′ w v : Workspaces) (o o′ l l′ : List ℕ) → x ≡ y → unless x (outcome r m o) w l .report ≡ unless y (outcome r m′ o′) v l′ .report
+pub same-report : (x y : Option Refusal) (r : Report) (m m′ w v : Workspaces) (o o′ l l′ : List ℕ) → x ≡ y → unless x (outcome r m o) w l .report ≡ unless y (outcome r m′ o′) v l′ .report
 unfolding unless
 same-report x y r m m′ w v o o′ l l′ e = ap (λ (z : Option Refusal). unless z (outcome r m o) w l .report) e ∙ go y
   where

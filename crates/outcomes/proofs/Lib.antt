@@ -5,3 +5,4 @@ pub mod Lengths
 pub mod RefusedExactly
 pub mod OwnSrid
 pub mod FirstExtremeLine
+pub mod Alike

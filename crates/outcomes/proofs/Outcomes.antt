@@ -16,6 +16,9 @@ use Rattle.refusals.proofs.Checks.{first-append, first-keeps}
 use Rattle.refusals.proofs.Sides.{first-of-one}
 use Rattle.gpb.specs.Header.{sridOf}
 use Rattle.primitives.specs.declared.Witness.{Witness}
+use Rattle.extremes.specs.Found.{answerOf}
+use Rattle.extremes.specs.declared.ExtremePair.{ExtremePair}
+use Rattle.extremes.specs.declared.ExtremePair.the-variants as extreme-pair
 use Rattle.operands.specs.Operands.{Workspaces, lentChecks, filled}
 use Rattle.operands.specs.Inner.{checkedOf}
 use Rattle.operands.specs.declared.Operands.{Operands}
@@ -31,9 +34,18 @@ use Rattle.outcomes.specs.declared.Decision.the-variants as decision
 
 -- ---- the pair
 
--- an answer with an inverse tells the pair
-pub told : {R : Type 0} (answerOf : Option Witness → R) (back : R → Option Witness) → ((p : Option Witness) → back (answerOf p) ≡ p) → (p : Option Witness) (r s : R) → r ≡ answerOf p → r ≡ s → p ≡ back s
-told answerOf back inverse p r s e q = sym (inverse p) ∙ ap back (sym e ∙ q)
+-- the pair that a sweep's answer tells
+abbrev foundIn : ExtremePair → Option Witness
+foundIn extreme-pair.Nothing = none
+foundIn (extreme-pair.Found x) = some x
+
+found-inverse : (p : Option Witness) → foundIn (answerOf p) ≡ p
+unfolding answerOf
+found-inverse none = refl
+found-inverse (some x) = refl
+
+pub told : (p : Option Witness) (r s : ExtremePair) → r ≡ answerOf p → r ≡ s → p ≡ foundIn s
+told p r s e q = sym (found-inverse p) ∙ ap foundIn (sym e ∙ q)
 
 -- ---- what the checks answered
 
@@ -54,7 +66,7 @@ unfolding decisionReport
 decided-report true = refl
 decided-report false = refl
 
--- ---- distance, max distance, intersects: a value of the pair
+-- ---- distance, max distance: a value of the pair
 
 module _ (a b : List ℕ) (p : Option Witness) (value : Option Witness → Value) (w : Workspaces) where
   abbrev Measured : Outcome → Type 0
@@ -68,18 +80,26 @@ module _ (a b : List ℕ) (p : Option Witness) (value : Option Witness → Value
   unfolding unless
   measure-answered free w′ full q e = rw (free, e, full)
 
--- yes exactly where the distance is the code's 0.0
-pub touch-answered : (a b : List ℕ) (p : Option Witness) (w : Workspaces) → firstOf (lentChecks a b w) ≡ none → (w′ : Workspaces) → w′ ≡ filled a b w → (x : Witness) → p ≡ some x → (t : Bool) → eq (x .d) zero ≡ t → Measured a b p touchingValue w (outcome (decisionReport (cond t decision.Yes decision.No)) w′ [])
+-- ---- within, fully within, intersects: a decision by what the distance answers
+
+-- what a distance decides by a test
+decisionOf : (Float → Bool) → Answer → Decision
+decisionOf test (answer.Measured m) = cond (test m) decision.Yes decision.No
+decisionOf test answer.Nothing = decision.No
+decisionOf test (answer.Refused r) = decision.Refused r
+
+-- a value that is the test of the distance, and no where there is no pair
+record Decides (test : Float → Bool) (value : Option Witness → Value) : Type 0 where
+  pub of-none : value none ≡ decided false
+  pub of-pair : (x : Witness) → value (some x) ≡ decided (test (x .d))
+
+within-decides : (d : Float) → Decides (λ m. le m d) (withinValue d)
+unfolding withinValue
+within-decides d = record { of-none = refl; of-pair = λ x. refl }
+
+touching-decides : Decides (λ m. eq m zero) touchingValue
 unfolding touchingValue ofBits
-touch-answered a b p w free w′ full x e t same = rw (decided-report t, ← same) (measure-answered a b p touchingValue w free w′ full (some x) e)
-
--- ---- within, fully within: a decision by what the distance answers
-
--- what a distance decides
-decisionOf : Float → Answer → Decision
-decisionOf d (answer.Measured m) = cond (le m d) decision.Yes decision.No
-decisionOf d answer.Nothing = decision.No
-decisionOf d (answer.Refused r) = decision.Refused r
+touching-decides = record { of-none = refl; of-pair = λ x. refl }
 
 -- reports differ where their cases do
 unlike : {v : Value} {n side : ℕ} → answering v ≡ refused n side → ⊥
@@ -92,16 +112,16 @@ same-number : (m n : Float) → answering (number m) ≡ answering (number n) �
 same-number m n e = cc
 
 -- a report of the distance settles the report of the decision
-within-by : (d : Float) (first : Option Refusal) (found : Option Witness) (w′ full w : Workspaces) (r : Answer) → outcome (answerReport r) w′ [] ≡ unless first (outcome (answering (distanceValue found)) full []) w [] → outcome (decisionReport (decisionOf d r)) w′ [] ≡ unless first (outcome (answering (withinValue d found)) full []) w []
-unfolding unless answerReport decisionReport decisionOf distanceValue withinValue
-within-by d (some t) found w′ full w (answer.Measured m) e = absurd (unlike (ap (λ (x : Outcome). x .report) e))
-within-by d (some t) found w′ full w answer.Nothing e = absurd (unlike (ap (λ (x : Outcome). x .report) e))
-within-by d (some t) found w′ full w (answer.Refused s) e = e
-within-by d none none w′ full w (answer.Measured m) e = absurd (a-number (ap (λ (x : Outcome). x .report) e))
-within-by d none none w′ full w answer.Nothing e = rw (ap (λ (x : Outcome). x .memory) e)
-within-by d none found w′ full w (answer.Refused s) e = absurd (unlike (sym (ap (λ (x : Outcome). x .report) e)))
-within-by d none (some x) w′ full w (answer.Measured m) e = rw (decided-report (le m d), same-number m (x .d) (ap (λ (y : Outcome). y .report) e), ap (λ (y : Outcome). y .memory) e)
-within-by d none (some x) w′ full w answer.Nothing e = absurd (a-number (sym (ap (λ (y : Outcome). y .report) e)))
+decided-by : {test : Float → Bool} {value : Option Witness → Value} → Decides test value → (first : Option Refusal) (found : Option Witness) (w′ full w : Workspaces) (r : Answer) → outcome (answerReport r) w′ [] ≡ unless first (outcome (answering (distanceValue found)) full []) w [] → outcome (decisionReport (decisionOf test r)) w′ [] ≡ unless first (outcome (answering (value found)) full []) w []
+unfolding unless answerReport decisionReport decisionOf distanceValue
+decided-by t (some f) found w′ full w (answer.Measured m) e = absurd (unlike (ap (λ (x : Outcome). x .report) e))
+decided-by t (some f) found w′ full w answer.Nothing e = absurd (unlike (ap (λ (x : Outcome). x .report) e))
+decided-by t (some f) found w′ full w (answer.Refused s) e = e
+decided-by t none none w′ full w (answer.Measured m) e = absurd (a-number (ap (λ (x : Outcome). x .report) e))
+decided-by t none none w′ full w answer.Nothing e = rw (t .of-none, ap (λ (x : Outcome). x .memory) e)
+decided-by t none found w′ full w (answer.Refused s) e = absurd (unlike (sym (ap (λ (x : Outcome). x .report) e)))
+decided-by {test} t none (some x) w′ full w (answer.Measured m) e = rw (t .of-pair x, decided-report (test m), same-number m (x .d) (ap (λ (y : Outcome). y .report) e), ap (λ (y : Outcome). y .memory) e)
+decided-by t none (some x) w′ full w answer.Nothing e = absurd (a-number (sym (ap (λ (y : Outcome). y .report) e)))
 
 first-tolerance : (d : Float) → firstOf (toleranceChecks d) ≡ cond (lt d zero) (some (noSide 1)) none
 unfolding toleranceChecks ofBits
@@ -121,8 +141,8 @@ module _ (a b : List ℕ) (p : Option Witness) (d : Float) (w : Workspaces) wher
     within-first : firstOf (toleranceChecks d ++ lentChecks a b w) ≡ firstOf (lentChecks a b w)
     within-first = first-append (toleranceChecks d) (lentChecks a b w) (first-tolerance d ∙ rw from-zero)
 
-    settled : (r : Answer) → Measured a b p distanceValue w (outcome (answerReport r) w′ []) → Decided (outcome (decisionReport (decisionOf d r)) w′ [])
-    settled r e = rw within-first (within-by d (firstOf (lentChecks a b w)) p w′ (filled a b w) w r e)
+    settled : (r : Answer) → Measured a b p distanceValue w (outcome (answerReport r) w′ []) → Decided (outcome (decisionReport (decisionOf (λ m. le m d) r)) w′ [])
+    settled r e = rw within-first (decided-by (within-decides d) (firstOf (lentChecks a b w)) p w′ (filled a b w) w r e)
 
     module _ (r : Answer) (measured : Measured a b p distanceValue w (outcome (answerReport r) w′ [])) where
       pub within-refused : (t : Refusal) → r ≡ answer.Refused t → Decided (outcome (decisionReport (decision.Refused t)) w′ [])
@@ -140,6 +160,26 @@ module _ (a b : List ℕ) (p : Option Witness) (d : Float) (w : Workspaces) wher
       pub within-no : (m : Float) → r ≡ answer.Measured m → le m d ≡ false → Decided (outcome (decisionReport decision.No) w′ [])
       unfolding decisionOf
       within-no m q t = rw t at (settled (answer.Measured m) (rw q at measured))
+
+module _ (a b : List ℕ) (p : Option Witness) (w w′ : Workspaces) (r : Answer) (measured : Measured a b p distanceValue w (outcome (answerReport r) w′ [])) where
+  touching : (s : Answer) → r ≡ s → Measured a b p touchingValue w (outcome (decisionReport (decisionOf (λ m. eq m zero) s)) w′ [])
+  touching s q = decided-by touching-decides (firstOf (lentChecks a b w)) p w′ (filled a b w) w s (rw q at measured)
+
+  pub touch-refused : (t : Refusal) → r ≡ answer.Refused t → Measured a b p touchingValue w (outcome (decisionReport (decision.Refused t)) w′ [])
+  unfolding decisionOf
+  touch-refused t q = touching (answer.Refused t) q
+
+  pub touch-nothing : r ≡ answer.Nothing → Measured a b p touchingValue w (outcome (decisionReport decision.No) w′ [])
+  unfolding decisionOf
+  touch-nothing q = touching answer.Nothing q
+
+  pub touch-yes : (m : Float) → r ≡ answer.Measured m → eq m zero ≡ true → Measured a b p touchingValue w (outcome (decisionReport decision.Yes) w′ [])
+  unfolding decisionOf
+  touch-yes m q t = rw t at (touching (answer.Measured m) q)
+
+  pub touch-no : (m : Float) → r ≡ answer.Measured m → eq m zero ≡ false → Measured a b p touchingValue w (outcome (decisionReport decision.No) w′ [])
+  unfolding decisionOf
+  touch-no m q t = rw t at (touching (answer.Measured m) q)
 
 -- a NaN tolerance is not refused, and answers no
 no-le-nan : (x : Float) → le x nan ≡ false

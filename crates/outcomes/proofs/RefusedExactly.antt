@@ -27,7 +27,7 @@ same-refusal t r e =
     let s : t .side ≡ r .side = cc in
     rw (n, s)
 
-exactly : (cs : List (Check Refusal)) (r : Refusal) (v : Value) (m w : Workspaces) (o l : List ℕ) → (unless (firstOf cs) (outcome (answering v) m o) w l .report ≡ refusing r) ↔ First cs r
+pub exactly : (cs : List (Check Refusal)) (r : Refusal) (v : Value) (m w : Workspaces) (o l : List ℕ) → (unless (firstOf cs) (outcome (answering v) m o) w l .report ≡ refusing r) ↔ First cs r
 unfolding unless
 exactly cs r v m w o l = (λ h. given-exactly cs r .0 (go (firstOf cs) h), λ f. rw (given-exactly cs r .1 f))
   where

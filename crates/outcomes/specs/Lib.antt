@@ -1,4 +1,6 @@
 pub mod Answers
+pub mod Lent
 pub mod Operations
 pub mod ThirdProperty
+pub mod Alike
 pub mod Inner

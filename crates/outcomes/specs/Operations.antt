@@ -11,7 +11,7 @@ use Rattle.ieee754.specs.MinMax.{positiveZero}
 use Rattle.refusals.specs.Checks.{Check, check, firstOf}
 use Rattle.refusals.specs.declared.Refusal.{Refusal}
 use Rattle.gpb.specs.Header.{sridOf}
-use Rattle.gpb.specs.Written.{pointBlob, lineBlob}
+use Rattle.gpb.specs.Written.{pointBytes, lineBytes, pointBlob, lineBlob}
 use Rattle.primitives.specs.declared.Point.{Point}
 use Rattle.primitives.specs.declared.Witness.{Witness}
 use Rattle.parts.specs.Points.{pointOf}
@@ -98,12 +98,12 @@ blobValue (some w) = blob
 -- the line in the output's first 65 bytes, rest unchanged; none leaves every byte
 unfoldable pub lineAfter : ℕ → Option Witness → List ℕ → List ℕ
 lineAfter srid none output = output
-lineAfter srid (some w) output = lineBlob srid (w .ax) (w .ay) (w .az) (w .bx) (w .by) (w .bz) ++ drop 65 output
+lineAfter srid (some w) output = lineBlob srid (w .ax) (w .ay) (w .az) (w .bx) (w .by) (w .bz) ++ drop lineBytes output
 
 -- the first point in the output's first 37 bytes, rest unchanged; none leaves every byte
 unfoldable pub pointAfter : ℕ → Option Witness → List ℕ → List ℕ
 pointAfter srid none output = output
-pointAfter srid (some w) output = pointBlob srid (w .ax) (w .ay) (w .az) ++ drop 37 output
+pointAfter srid (some w) output = pointBlob srid (w .ax) (w .ay) (w .az) ++ drop pointBytes output
 
 -- ---- operations
 
@@ -121,7 +121,7 @@ fullyWithin a b d w =
 
 -- the refusals of an operation that writes a line
 unfoldable pub lineChecks : List ℕ → List ℕ → Workspaces → List ℕ → List (Check Refusal)
-lineChecks a b w output = lentChecks a b w ++ outputChecks 65 output
+lineChecks a b w output = lentChecks a b w ++ outputChecks lineBytes output
 
 -- st_3d_longest_line; the SRID is A's only
 unfoldable pub longestLine : List ℕ → List ℕ → Workspaces → List ℕ → Outcome
@@ -150,7 +150,7 @@ intersects a b w =
 -- st_3d_closest_point; the SRID is A's only
 unfoldable pub closestPoint : List ℕ → List ℕ → Workspaces → List ℕ → Outcome
 closestPoint a b w output =
-    unless (firstOf (lentChecks a b w ++ outputChecks 37 output))
+    unless (firstOf (lentChecks a b w ++ outputChecks pointBytes output))
     (outcome (answering (blobValue (closestPair a b))) (filled a b w) (pointAfter (sridOf a) (closestPair a b) output)) w output
 
 -- st_3d_shortest_line; the SRID is A's only

@@ -8,6 +8,7 @@ use lib.ListN.{take, getElem?}
 use lib.Ieee.{Float}
 use Rattle.refusals.specs.Checks.{firstOf}
 use Rattle.gpb.specs.Header.{headerChecks3d}
+use Rattle.gpb.specs.Written.{lineBytes}
 use Rattle.coords.specs.Walk.{Coordinate, Geometry, ok}
 use Rattle.coords.specs.Parts.{Run, run, runsOf, isLine, isFace}
 use Rattle.parts.specs.Points.{pointOf}
@@ -15,7 +16,6 @@ use Rattle.blob.specs.Blob.{walkOfBlob, runsOfBlob}
 use Rattle.extremes.specs.Pairs.{Pair}
 use Rattle.extremes.specs.Extreme.{distanceOf, atMost, atLeast, Holds}
 use Rattle.operands.specs.Operands.{Workspaces}
-use Rattle.outcomes.specs.Answers.{nothing, blob, Report, answering}
 use Rattle.outcomes.specs.Operations.{verticesOfBlob, lineChecks}
 
 -- x, y, z have the same bits
@@ -27,37 +27,40 @@ pub record SameBits (c d : Coordinate) : Type 0 where
 -- a line reads back as a pair: header and walk accept the output's first 65 bytes and give no run but one line run of
 -- two coordinates, whose x, y, z have the same bits as side 1's vertex, then side 2's
 pub record ReadsBack (output : List ℕ) (p : Pair Coordinate) : Type 0 where
-  pub header : firstOf (headerChecks3d (take 65 output)) ≡ none
+  pub header : firstOf (headerChecks3d (take lineBytes output)) ≡ none
   pub tree : Geometry
   pub end : ℕ
-  pub walk : walkOfBlob (take 65 output) ≡ ok tree end
+  pub walk : walkOfBlob (take lineBytes output) ≡ ok tree end
   pub start : Coordinate
   pub finish : Coordinate
   pub only-run : runsOf tree ≡ run 2 (start ∷ finish ∷ []) ∷ []
   pub first : SameBits start (p .left)
   pub second : SameBits finish (p .right)
 
--- the line is reported and reads back as the pair
-pub record IsLine (report : Report) (output : List ℕ) (p : Pair Coordinate) : Type 0 where
-  pub reported : report ≡ answering blob
-  pub reads-back : ReadsBack output p
-
--- the pairs being those of the two blobs' vertices: none exactly when a blob has no vertex; and if there is a first pair
--- and its computed distance is no NaN, the line is the first pair whose distance is no NaN and to which the distance of
--- every other pair that is no NaN stands in the order (at most: the longest; at least: the shortest), skipped ones included
-abbrev pub FirstExtremeLine : (Float → Float → Bool) → List ℕ → List ℕ → Report → List ℕ → Type 0
-FirstExtremeLine order a b report output =
-    Holds (distanceOf pointOf) order (verticesOfBlob a) (verticesOfBlob b) (report ≡ answering nothing) (IsLine report output)
-
--- of an accepted longest-line call: `lent` is the output before it, `output` the one after
-pub record LongestOfAll (a b : List ℕ) (w : Workspaces) (lent : List ℕ) (report : Report) (output : List ℕ) : Type 0 where
-  pub accepted : firstOf (lineChecks a b w lent) ≡ none → FirstExtremeLine atMost a b report output
-
 -- a blob in which no line or ring has a coordinate holds point runs only: its runs are those that have a coordinate
 pub record PointRunsOnly (s : List ℕ) : Type 0 where
   pub no-line : (i kind : ℕ) (cs : List Coordinate) → getElem? (runsOfBlob s) i ≡ some (run kind cs) → isLine kind ≡ false
   pub no-ring : (i kind : ℕ) (cs : List Coordinate) → getElem? (runsOfBlob s) i ≡ some (run kind cs) → isFace kind ≡ false
 
--- of an accepted shortest-line call whose two blobs hold point runs only
-pub record ShortestOfPoints (a b : List ℕ) (w : Workspaces) (lent : List ℕ) (report : Report) (output : List ℕ) : Type 0 where
-  pub accepted : firstOf (lineChecks a b w lent) ≡ none → PointRunsOnly a → PointRunsOnly b → FirstExtremeLine atLeast a b report output
+-- How a call tells its answer: an operation by a report, an export by its reply. `noLine` and `aLine` are what it tells
+-- where there is no line and where one is written.
+module _ {R : Type 0} (noLine aLine : R) where
+  -- the line is told, and reads back as the pair
+  pub record IsLine (told : R) (output : List ℕ) (p : Pair Coordinate) : Type 0 where
+    pub is-told : told ≡ aLine
+    pub reads-back : ReadsBack output p
+
+  -- the pairs being those of the two blobs' vertices: none exactly when a blob has no vertex; and if there is a first pair
+  -- and its computed distance is no NaN, the line is the first pair whose distance is no NaN and to which the distance of
+  -- every other pair that is no NaN stands in the order (at most: the longest; at least: the shortest), skipped ones included
+  abbrev pub FirstExtremeLine : (Float → Float → Bool) → List ℕ → List ℕ → R → List ℕ → Type 0
+  FirstExtremeLine order a b told output =
+      Holds (distanceOf pointOf) order (verticesOfBlob a) (verticesOfBlob b) (told ≡ noLine) (IsLine told output)
+
+  -- of an accepted longest-line call: `lent` is the output before it, `output` the one after
+  pub record LongestOfAll (a b : List ℕ) (w : Workspaces) (lent : List ℕ) (told : R) (output : List ℕ) : Type 0 where
+    pub accepted : firstOf (lineChecks a b w lent) ≡ none → FirstExtremeLine atMost a b told output
+
+  -- of an accepted shortest-line call whose two blobs hold point runs only
+  pub record ShortestOfPoints (a b : List ℕ) (w : Workspaces) (lent : List ℕ) (told : R) (output : List ℕ) : Type 0 where
+    pub accepted : firstOf (lineChecks a b w lent) ≡ none → PointRunsOnly a → PointRunsOnly b → FirstExtremeLine atLeast a b told output

@@ -1,4 +1,5 @@
-// What the 3D measures between two blobs answer: document 01's operations as definitions (specs/Operations), for every input, and laws of them.
+// What the 3D measures between two blobs answer: document 01's operations as definitions (specs/Operations), for every
+// input, and laws of them.
 use refusals::Refusal;
 
 // A number (may be NaN), none, or a refusal.

@@ -10,6 +10,7 @@ use Rattle.extremes.specs.Extreme.{measured, distanceOf, atLeast, Holds}
 use Rattle.blob.specs.Blob.{runsOfBlob}
 use Rattle.closest.proofs.PointsOnly.{shortest-line-of-runs}
 use Rattle.operands.specs.Operands.{Workspaces, filled}
+use Rattle.outcomes.specs.Answers.{nothing, blob, answering}
 use Rattle.outcomes.specs.Operations.{Outcome, verticesOfBlob, closestPair, lineChecks, shortestLine}
 use Rattle.outcomes.specs.ThirdProperty.{PointRunsOnly, ShortestOfPoints}
 use Rattle.outcomes.proofs.FirstExtremeLine.{point-binary64, accepted-line}
@@ -21,7 +22,7 @@ unfolding closestPair
 closest-holds a b p q = shortest-line-of-runs pointOf point-binary64 (runsOfBlob a) (runsOfBlob b) (point-runs a p) (point-runs b q)
 
 module _ (a b : List ℕ) (w : Workspaces) (output : List ℕ) (bytes1 : (i : ℕ) → getD a i 0 < 256) (bytes2 : (i : ℕ) → getD b i 0 < 256) where
-  pub shortest-of-points : ShortestOfPoints a b w output (shortestLine a b w output .report) (shortestLine a b w output .output)
+  pub shortest-of-points : ShortestOfPoints (answering nothing) (answering blob) a b w output (shortestLine a b w output .report) (shortestLine a b w output .output)
   unfolding shortestLine
   shortest-of-points =
       record {
@@ -29,5 +30,5 @@ module _ (a b : List ℕ) (w : Workspaces) (output : List ℕ) (bytes1 : (i : �
       }
 
   -- the same of an outcome that was shown to be the operation's
-  pub shortest-of-outcome : (o : Outcome) → o ≡ shortestLine a b w output → ShortestOfPoints a b w output (o .report) (o .output)
-  shortest-of-outcome o e = subst (λ (o : Outcome). ShortestOfPoints a b w output (o .report) (o .output)) (sym e) shortest-of-points
+  pub shortest-of-outcome : (o : Outcome) → o ≡ shortestLine a b w output → ShortestOfPoints (answering nothing) (answering blob) a b w output (o .report) (o .output)
+  shortest-of-outcome o e = subst (λ (o : Outcome). ShortestOfPoints (answering nothing) (answering blob) a b w output (o .report) (o .output)) (sym e) shortest-of-points

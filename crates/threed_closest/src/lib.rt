@@ -1,6 +1,10 @@
-// 3D measures by the closest pair of points, segments and triangles of two blobs: document 01's distance, within, intersects, closest point and shortest line, for every input.
-// Undecided in its contracts is only the payload, sign included, of a NaN in a workspace or in an answered number; output bytes are wholly decided.
+// 3D measures by the closest pair of points, segments and triangles of two blobs: document 01's distance, within,
+// intersects, closest point and shortest line, for every input.
+// Undecided in its contracts is only the payload, sign included, of a NaN in a workspace or in an answered number;
+// output bytes are wholly decided.
 use extremes::ExtremePair;
+use gpb::LINE_BYTES;
+use gpb::POINT_BYTES;
 use operands::Checked;
 use operands::Operands;
 use outcomes::Answer;
@@ -12,18 +16,13 @@ use workspace::NUMBERS_PER_RUN;
 ghost use mathlib.Core.Path.{_≡_};
 ghost use mathlib.Core.List.{[]};
 ghost use lib.ListN.{length};
-ghost use Rattle.operands.specs.Operands.{workspaces};
+ghost use Rattle.outcomes.specs.Lent.{lent, left};
 ghost use Rattle.operands.specs.Inner.{operandsOf, Ready};
-ghost use Rattle.outcomes.specs.Answers.{answerReport, decisionReport, writtenReport};
-ghost use Rattle.outcomes.specs.Operations.{outcome, distance, within, intersects, closestPoint, shortestLine};
+ghost use Rattle.outcomes.specs.Answers.{nothing, blob, answering, answerReport, decisionReport, writtenReport};
+ghost use Rattle.outcomes.specs.Operations.{outcome, closestPair, distance, within, intersects};
+ghost use Rattle.outcomes.specs.Operations.{closestPoint, shortestLine};
+ghost use Rattle.outcomes.specs.Inner.{PairRead};
 ghost use Rattle.outcomes.specs.ThirdProperty.{ShortestOfPoints};
-ghost use Rattle.threed_closest.specs.Inner.{ClosestRead};
-
-// The bytes of a point.
-const POINT_BYTES: usize = 37;
-
-// The bytes of a line.
-const LINE_BYTES: usize = 65;
 
 // The closest pair of the items of two accepted blobs, once they are read into lent memory.
 fn closest_pair(
@@ -37,8 +36,10 @@ fn closest_pair(
     stop_at_zero: bool,
 ) -> ExtremePair
     requires { ⌜ o ≡ operandsOf (now a) (now b) ⌝ }
-    requires { ⌜ Ready (now a) (now b) (length (now floats1)) (length (now table1)) (length (now floats2)) (length (now table2)) ⌝ }
-    ensures { λ r. ⌜ ClosestRead (now (a .entry)) (now (b .entry)) (workspaces (now (floats1 .entry)) (now (table1 .entry)) (now (floats2 .entry)) (now (table2 .entry))) (workspaces (now (floats1 .exit)) (now (table1 .exit)) (now (floats2 .exit)) (now (table2 .exit))) r ⌝ }
+    requires { ⌜ Ready (now a) (now b)
+        (length (now floats1)) (length (now table1)) (length (now floats2)) (length (now table2)) ⌝ }
+    ensures { λ r. ⌜ PairRead (closestPair (now (a .entry)) (now (b .entry))) (now (a .entry)) (now (b .entry))
+        (lent floats1 table1 floats2 table2) (left floats1 table1 floats2 table2) r ⌝ }
 {
     let first = o.first;
     let second = o.second;
@@ -56,16 +57,18 @@ fn closest_pair(
     )
 }
 
-// The least distance of an item of side 1 from one of side 2.
-pub fn st_3d_distance(
+// The least distance of an item of side 1 from one of side 2. Nothing is less than 0, so the sweep may stop there.
+fn least_distance(
     a: &[u8],
     b: &[u8],
     floats1: &mut [f64],
     table1: &mut [u32],
     floats2: &mut [f64],
     table2: &mut [u32],
+    stop_at_zero: bool,
 ) -> Answer
-    ensures { λ r. ⌜ outcome (answerReport r) (workspaces (now (floats1 .exit)) (now (table1 .exit)) (now (floats2 .exit)) (now (table2 .exit))) [] ≡ distance (now (a .entry)) (now (b .entry)) (workspaces (now (floats1 .entry)) (now (table1 .entry)) (now (floats2 .entry)) (now (table2 .entry))) ⌝ }
+    ensures whole_outcome { λ r. ⌜ outcome (answerReport r) (left floats1 table1 floats2 table2) []
+        ≡ distance (now (a .entry)) (now (b .entry)) (lent floats1 table1 floats2 table2) ⌝ }
 {
     match operands::check(
         a,
@@ -84,12 +87,27 @@ pub fn st_3d_distance(
             table1,
             floats2,
             table2,
-            false,
+            stop_at_zero,
         ) {
             ExtremePair::Nothing => Answer::Nothing,
             ExtremePair::Found(w) => Answer::Measured(w.d),
         },
     }
+}
+
+// The least distance of an item of side 1 from one of side 2.
+pub fn st_3d_distance(
+    a: &[u8],
+    b: &[u8],
+    floats1: &mut [f64],
+    table1: &mut [u32],
+    floats2: &mut [f64],
+    table2: &mut [u32],
+) -> Answer
+    ensures whole_outcome { λ r. ⌜ outcome (answerReport r) (left floats1 table1 floats2 table2) []
+        ≡ distance (now (a .entry)) (now (b .entry)) (lent floats1 table1 floats2 table2) ⌝ }
+{
+    least_distance(a, b, floats1, table1, floats2, table2, false)
 }
 
 // Whether the distance is at most d.
@@ -102,7 +120,8 @@ pub fn st_3d_dwithin(
     floats2: &mut [f64],
     table2: &mut [u32],
 ) -> Decision
-    ensures { λ r. ⌜ outcome (decisionReport r) (workspaces (now (floats1 .exit)) (now (table1 .exit)) (now (floats2 .exit)) (now (table2 .exit))) [] ≡ within (now (a .entry)) (now (b .entry)) d (workspaces (now (floats1 .entry)) (now (table1 .entry)) (now (floats2 .entry)) (now (table2 .entry))) ⌝ }
+    ensures whole_outcome { λ r. ⌜ outcome (decisionReport r) (left floats1 table1 floats2 table2) []
+        ≡ within (now (a .entry)) (now (b .entry)) d (lent floats1 table1 floats2 table2) ⌝ }
 {
     if d < 0.0 {
         return Decision::Refused(Refusal { number: 1, side: 0 });
@@ -127,33 +146,16 @@ pub fn st_3d_intersects(
     floats2: &mut [f64],
     table2: &mut [u32],
 ) -> Decision
-    ensures { λ r. ⌜ outcome (decisionReport r) (workspaces (now (floats1 .exit)) (now (table1 .exit)) (now (floats2 .exit)) (now (table2 .exit))) [] ≡ intersects (now (a .entry)) (now (b .entry)) (workspaces (now (floats1 .entry)) (now (table1 .entry)) (now (floats2 .entry)) (now (table2 .entry))) ⌝ }
+    ensures whole_outcome { λ r. ⌜ outcome (decisionReport r) (left floats1 table1 floats2 table2) []
+        ≡ intersects (now (a .entry)) (now (b .entry)) (lent floats1 table1 floats2 table2) ⌝ }
 {
-    match operands::check(
-        a,
-        b,
-        floats1.len(),
-        table1.len(),
-        floats2.len(),
-        table2.len(),
-    ) {
-        Checked::Refused(refusal) => Decision::Refused(refusal),
-        Checked::Accepted(o) => match closest_pair(
-            a,
-            b,
-            o,
-            floats1,
-            table1,
-            floats2,
-            table2,
-            true,
-        ) {
-            ExtremePair::Nothing => Decision::No,
-            ExtremePair::Found(w) => if w.d == 0.0 {
-                Decision::Yes
-            } else {
-                Decision::No
-            },
+    match least_distance(a, b, floats1, table1, floats2, table2, true) {
+        Answer::Refused(refusal) => Decision::Refused(refusal),
+        Answer::Nothing => Decision::No,
+        Answer::Measured(least) => if least == 0.0 {
+            Decision::Yes
+        } else {
+            Decision::No
         },
     }
 }
@@ -168,7 +170,8 @@ pub fn st_3d_closest_point(
     table2: &mut [u32],
     output: &mut [u8],
 ) -> Written
-    ensures { λ r. ⌜ outcome (writtenReport r) (workspaces (now (floats1 .exit)) (now (table1 .exit)) (now (floats2 .exit)) (now (table2 .exit))) (now (output .exit)) ≡ closestPoint (now (a .entry)) (now (b .entry)) (workspaces (now (floats1 .entry)) (now (table1 .entry)) (now (floats2 .entry)) (now (table2 .entry))) (now (output .entry)) ⌝ }
+    ensures whole_outcome { λ r. ⌜ outcome (writtenReport r) (left floats1 table1 floats2 table2) (now (output .exit))
+        ≡ closestPoint (now (a .entry)) (now (b .entry)) (lent floats1 table1 floats2 table2) (now (output .entry)) ⌝ }
 {
     match operands::check(
         a,
@@ -207,8 +210,11 @@ pub fn st_3d_shortest_line(
     table2: &mut [u32],
     output: &mut [u8],
 ) -> Written
-    ensures whole_outcome { λ r. ⌜ outcome (writtenReport r) (workspaces (now (floats1 .exit)) (now (table1 .exit)) (now (floats2 .exit)) (now (table2 .exit))) (now (output .exit)) ≡ shortestLine (now (a .entry)) (now (b .entry)) (workspaces (now (floats1 .entry)) (now (table1 .entry)) (now (floats2 .entry)) (now (table2 .entry))) (now (output .entry)) ⌝ }
-    ensures shortest_of_points { λ r. ⌜ ShortestOfPoints (now (a .entry)) (now (b .entry)) (workspaces (now (floats1 .entry)) (now (table1 .entry)) (now (floats2 .entry)) (now (table2 .entry))) (now (output .entry)) (writtenReport r) (now (output .exit)) ⌝ }
+    ensures whole_outcome { λ r. ⌜ outcome (writtenReport r) (left floats1 table1 floats2 table2) (now (output .exit))
+        ≡ shortestLine (now (a .entry)) (now (b .entry)) (lent floats1 table1 floats2 table2) (now (output .entry)) ⌝ }
+    ensures shortest_of_points { λ r. ⌜ ShortestOfPoints (answering nothing) (answering blob)
+        (now (a .entry)) (now (b .entry)) (lent floats1 table1 floats2 table2) (now (output .entry))
+        (writtenReport r) (now (output .exit)) ⌝ }
 {
     match operands::check(
         a,

@@ -1,3 +1,2 @@
 -- The farthest pair, and the third property of the longest line.
-pub mod Pair
 pub mod LongestLine

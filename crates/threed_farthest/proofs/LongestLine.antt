@@ -7,13 +7,14 @@ use Rattle.refusals.specs.Checks.{firstOf}
 use Rattle.parts.specs.Points.{pointOf}
 use Rattle.farthest.proofs.LongestLine.{longest-line-of}
 use Rattle.operands.specs.Operands.{Workspaces, filled}
+use Rattle.outcomes.specs.Answers.{nothing, blob, answering}
 use Rattle.outcomes.specs.Operations.{Outcome, verticesOfBlob, farthestPair, lineChecks, longestLine}
 use Rattle.outcomes.specs.ThirdProperty.{LongestOfAll}
 use Rattle.outcomes.proofs.FirstExtremeLine.{point-binary64, accepted-line}
 
 module _ (a b : List ℕ) (w : Workspaces) (output : List ℕ) (bytes1 : (i : ℕ) → getD a i 0 < 256) (bytes2 : (i : ℕ) → getD b i 0 < 256) where
   -- whatever the two blobs hold
-  pub longest-of-all : LongestOfAll a b w output (longestLine a b w output .report) (longestLine a b w output .output)
+  pub longest-of-all : LongestOfAll (answering nothing) (answering blob) a b w output (longestLine a b w output .report) (longestLine a b w output .output)
   unfolding longestLine farthestPair
   longest-of-all =
       record {
@@ -21,5 +22,5 @@ module _ (a b : List ℕ) (w : Workspaces) (output : List ℕ) (bytes1 : (i : �
       }
 
   -- the same of an outcome that was shown to be the operation's
-  pub longest-of-outcome : (o : Outcome) → o ≡ longestLine a b w output → LongestOfAll a b w output (o .report) (o .output)
-  longest-of-outcome o e = subst (λ (o : Outcome). LongestOfAll a b w output (o .report) (o .output)) (sym e) longest-of-all
+  pub longest-of-outcome : (o : Outcome) → o ≡ longestLine a b w output → LongestOfAll (answering nothing) (answering blob) a b w output (o .report) (o .output)
+  longest-of-outcome o e = subst (λ (o : Outcome). LongestOfAll (answering nothing) (answering blob) a b w output (o .report) (o .output)) (sym e) longest-of-all

@@ -1,6 +1,9 @@
-// 3D measures by the farthest pair of vertices of two blobs: document 01's max distance, fully within and longest line, for every input.
-// Undecided in its contracts is only the payload, sign included, of a NaN in a workspace or in an answered number; output bytes are wholly decided.
+// 3D measures by the farthest pair of vertices of two blobs: document 01's max distance, fully within and longest
+// line, for every input.
+// Undecided in its contracts is only the payload, sign included, of a NaN in a workspace or in an answered number;
+// output bytes are wholly decided.
 use extremes::ExtremePair;
+use gpb::LINE_BYTES;
 use operands::Checked;
 use operands::Operands;
 use outcomes::Answer;
@@ -12,15 +15,12 @@ use workspace::NUMBERS_PER_RUN;
 ghost use mathlib.Core.Path.{_≡_};
 ghost use mathlib.Core.List.{[]};
 ghost use lib.ListN.{length};
-ghost use Rattle.operands.specs.Operands.{workspaces};
+ghost use Rattle.outcomes.specs.Lent.{lent, left};
 ghost use Rattle.operands.specs.Inner.{operandsOf, Ready};
-ghost use Rattle.outcomes.specs.Answers.{answerReport, decisionReport, writtenReport};
-ghost use Rattle.outcomes.specs.Operations.{outcome, maxDistance, fullyWithin, longestLine};
+ghost use Rattle.outcomes.specs.Answers.{nothing, blob, answering, answerReport, decisionReport, writtenReport};
+ghost use Rattle.outcomes.specs.Operations.{outcome, farthestPair, maxDistance, fullyWithin, longestLine};
+ghost use Rattle.outcomes.specs.Inner.{PairRead};
 ghost use Rattle.outcomes.specs.ThirdProperty.{LongestOfAll};
-ghost use Rattle.threed_farthest.specs.Inner.{FarthestRead};
-
-// The bytes of a line.
-const LINE_BYTES: usize = 65;
 
 // The farthest pair of the vertices of two accepted blobs, once they are read into lent memory.
 fn farthest_pair(
@@ -33,8 +33,10 @@ fn farthest_pair(
     table2: &mut [u32],
 ) -> ExtremePair
     requires { ⌜ o ≡ operandsOf (now a) (now b) ⌝ }
-    requires { ⌜ Ready (now a) (now b) (length (now floats1)) (length (now table1)) (length (now floats2)) (length (now table2)) ⌝ }
-    ensures { λ r. ⌜ FarthestRead (now (a .entry)) (now (b .entry)) (workspaces (now (floats1 .entry)) (now (table1 .entry)) (now (floats2 .entry)) (now (table2 .entry))) (workspaces (now (floats1 .exit)) (now (table1 .exit)) (now (floats2 .exit)) (now (table2 .exit))) r ⌝ }
+    requires { ⌜ Ready (now a) (now b)
+        (length (now floats1)) (length (now table1)) (length (now floats2)) (length (now table2)) ⌝ }
+    ensures { λ r. ⌜ PairRead (farthestPair (now (a .entry)) (now (b .entry))) (now (a .entry)) (now (b .entry))
+        (lent floats1 table1 floats2 table2) (left floats1 table1 floats2 table2) r ⌝ }
 {
     let first = o.first;
     let second = o.second;
@@ -60,7 +62,8 @@ pub fn st_3d_max_distance(
     floats2: &mut [f64],
     table2: &mut [u32],
 ) -> Answer
-    ensures { λ r. ⌜ outcome (answerReport r) (workspaces (now (floats1 .exit)) (now (table1 .exit)) (now (floats2 .exit)) (now (table2 .exit))) [] ≡ maxDistance (now (a .entry)) (now (b .entry)) (workspaces (now (floats1 .entry)) (now (table1 .entry)) (now (floats2 .entry)) (now (table2 .entry))) ⌝ }
+    ensures whole_outcome { λ r. ⌜ outcome (answerReport r) (left floats1 table1 floats2 table2) []
+        ≡ maxDistance (now (a .entry)) (now (b .entry)) (lent floats1 table1 floats2 table2) ⌝ }
 {
     match operands::check(
         a,
@@ -88,7 +91,8 @@ pub fn st_3d_dfully_within(
     floats2: &mut [f64],
     table2: &mut [u32],
 ) -> Decision
-    ensures { λ r. ⌜ outcome (decisionReport r) (workspaces (now (floats1 .exit)) (now (table1 .exit)) (now (floats2 .exit)) (now (table2 .exit))) [] ≡ fullyWithin (now (a .entry)) (now (b .entry)) d (workspaces (now (floats1 .entry)) (now (table1 .entry)) (now (floats2 .entry)) (now (table2 .entry))) ⌝ }
+    ensures whole_outcome { λ r. ⌜ outcome (decisionReport r) (left floats1 table1 floats2 table2) []
+        ≡ fullyWithin (now (a .entry)) (now (b .entry)) d (lent floats1 table1 floats2 table2) ⌝ }
 {
     if d < 0.0 {
         return Decision::Refused(Refusal { number: 1, side: 0 });
@@ -110,8 +114,11 @@ pub fn st_3d_longest_line(
     table2: &mut [u32],
     output: &mut [u8],
 ) -> Written
-    ensures whole_outcome { λ r. ⌜ outcome (writtenReport r) (workspaces (now (floats1 .exit)) (now (table1 .exit)) (now (floats2 .exit)) (now (table2 .exit))) (now (output .exit)) ≡ longestLine (now (a .entry)) (now (b .entry)) (workspaces (now (floats1 .entry)) (now (table1 .entry)) (now (floats2 .entry)) (now (table2 .entry))) (now (output .entry)) ⌝ }
-    ensures longest_of_all { λ r. ⌜ LongestOfAll (now (a .entry)) (now (b .entry)) (workspaces (now (floats1 .entry)) (now (table1 .entry)) (now (floats2 .entry)) (now (table2 .entry))) (now (output .entry)) (writtenReport r) (now (output .exit)) ⌝ }
+    ensures whole_outcome { λ r. ⌜ outcome (writtenReport r) (left floats1 table1 floats2 table2) (now (output .exit))
+        ≡ longestLine (now (a .entry)) (now (b .entry)) (lent floats1 table1 floats2 table2) (now (output .entry)) ⌝ }
+    ensures longest_of_all { λ r. ⌜ LongestOfAll (answering nothing) (answering blob)
+        (now (a .entry)) (now (b .entry)) (lent floats1 table1 floats2 table2) (now (output .entry))
+        (writtenReport r) (now (output .exit)) ⌝ }
 {
     match operands::check(
         a,

@@ -1,161 +1,33 @@
 // The operations for C: one function each, over lent memory. include/viskorrel.h documents them.
-// Undecided in their contracts is only the payload, sign included, of a NaN in a workspace or in an answered number; output bytes are wholly decided.
+// Undecided in their contracts is only the payload, sign included, of a NaN in a workspace or in an answered number;
+// output bytes are wholly decided.
+use blob::BlobRead;
 use blob::Sizes;
-use interpolation::Interpolated;
-use outcomes::Answer;
-use outcomes::Decision;
-use outcomes::Written;
-use refusals::Refusal;
+use replies::ANSWERED;
+use replies::NO_SURFACE;
+use replies::PairReply;
+use replies::Reply;
+use replies::pair;
+use replies::pair_refused;
 use surface::Cursor;
 use surface::PatchList;
 use surface::PatchRange;
+use workspace::FLOATS_PER_COORDINATE;
+use workspace::NUMBERS_PER_RUN;
 ghost use mathlib.Core.Path.{_≡_};
 ghost use mathlib.Core.List.{[]};
 ghost use Prim.Native.Nat.{ℕ, _+_, _-_};
 ghost use Rattle.blob.specs.Blob.{sizesOf};
-ghost use Rattle.interpolation.specs.Operation.{reportOf, interpolationOutcome};
-ghost use Rattle.operands.specs.Operands.{workspaces};
+ghost use Rattle.interpolation.specs.Operation.{lineInterpolatePoint};
+ghost use Rattle.ieee754.specs.MinMax.{positiveZero};
 ghost use Rattle.surface.specs.Patches.{patchValue, patchOf, listOf, nextOf, Before};
-ghost use Rattle.outcomes.specs.Answers.{answerReport, decisionReport, writtenReport};
-ghost use Rattle.outcomes.specs.Operations.{distance, maxDistance, within, fullyWithin, intersects, closestPoint, shortestLine, longestLine};
-ghost use Rattle.viskorrel.specs.Replies.{replyNothing, replyAnswered, replyRefused, replyOf, returned, returnedOf, interpolationReport, oneSided, pairOf, pairRefused, sizesReply, patchReply};
-ghost use Rattle.viskorrel.specs.PatchReplies.{patchesReply};
-
-// What an operation returns: a case, the number and side of a refusal, a number.
-#[repr(C)]
-pub struct Reply {
-    pub case: u32,
-    pub number: u32,
-    pub side: u32,
-    pub value: f64,
-}
-
-// What is returned where two numbers answer.
-#[repr(C)]
-pub struct PairReply {
-    pub case: u32,
-    pub number: u32,
-    pub side: u32,
-    pub first: usize,
-    pub second: usize,
-}
-
-// Nothing, or no.
-const NOTHING: u32 = 0;
-
-// A number, yes, a blob in the output, or two numbers.
-const ANSWERED: u32 = 1;
-
-// The number and the side say why.
-const REFUSED: u32 = 2;
-
-// A patch was asked of a blob that is no surface.
-const NO_SURFACE: u32 = 3;
-
-// The reply where there is no answer, or no is the answer.
-fn nothing() -> Reply
-    ensures { λ r. ⌜ r ≡ replyNothing ⌝ }
-{
-    Reply {
-        case: NOTHING,
-        number: 0,
-        side: 0,
-        value: 0.0,
-    }
-}
-
-// The reply where there is an answer: its number, or 0.
-fn answered(value: f64) -> Reply
-    ensures { λ r. ⌜ r ≡ replyAnswered value ⌝ }
-{
-    Reply {
-        case: ANSWERED,
-        number: 0,
-        side: 0,
-        value,
-    }
-}
-
-// The reply to a refused call.
-fn refused(refusal: Refusal) -> Reply
-    ensures { λ r. ⌜ r ≡ replyRefused (refusal .number) (refusal .side) ⌝ }
-{
-    Reply {
-        case: REFUSED,
-        number: refusal.number as u32,
-        side: refusal.side as u32,
-        value: 0.0,
-    }
-}
-
-// The reply to a distance.
-fn reply_to_answer(answer: Answer) -> Reply
-    ensures { λ r. ⌜ r ≡ replyOf (answerReport answer) ⌝ }
-{
-    match answer {
-        Answer::Measured(d) => answered(d),
-        Answer::Nothing => nothing(),
-        Answer::Refused(refusal) => refused(refusal),
-    }
-}
-
-// The reply to a question.
-fn reply_to_decision(decision: Decision) -> Reply
-    ensures { λ r. ⌜ r ≡ replyOf (decisionReport decision) ⌝ }
-{
-    match decision {
-        Decision::Yes => answered(0.0),
-        Decision::No => nothing(),
-        Decision::Refused(refusal) => refused(refusal),
-    }
-}
-
-// The reply to a blob that was asked for.
-fn reply_to_written(written: Written) -> Reply
-    ensures { λ r. ⌜ r ≡ replyOf (writtenReport written) ⌝ }
-{
-    match written {
-        Written::Blob => answered(0.0),
-        Written::Nothing => nothing(),
-        Written::Refused(refusal) => refused(refusal),
-    }
-}
-
-// The reply to an interpolated point.
-fn reply_to_interpolated(interpolated: Interpolated) -> Reply
-    ensures { λ r. ⌜ r ≡ replyOf (interpolationReport (reportOf interpolated)) ⌝ }
-{
-    match interpolated {
-        Interpolated::Blob => answered(0.0),
-        Interpolated::Refused(refusal) => refused(refusal),
-    }
-}
-
-// Two numbers with a case that is no refusal.
-fn pair(case: u32, first: usize, second: usize) -> PairReply
-    ensures { λ r. ⌜ r ≡ pairOf case first second ⌝ }
-{
-    PairReply {
-        case,
-        number: 0,
-        side: 0,
-        first,
-        second,
-    }
-}
-
-// The same of a refused call.
-fn pair_refused(refusal: Refusal) -> PairReply
-    ensures { λ r. ⌜ r ≡ pairRefused (refusal .number) (refusal .side) ⌝ }
-{
-    PairReply {
-        case: REFUSED,
-        number: refusal.number as u32,
-        side: refusal.side as u32,
-        first: 0,
-        second: 0,
-    }
-}
+ghost use Rattle.outcomes.specs.Lent.{lent, left, lentOne, leftOne};
+ghost use Rattle.outcomes.specs.Operations.{distance, maxDistance, within, fullyWithin};
+ghost use Rattle.outcomes.specs.Operations.{intersects, closestPoint, shortestLine, longestLine};
+ghost use Rattle.outcomes.specs.ThirdProperty.{LongestOfAll, ShortestOfPoints};
+ghost use Rattle.replies.specs.Replies.{replyNothing, replyAnswered, returned, returnedOf};
+ghost use Rattle.replies.specs.Replies.{sizesReply, patchReply, returnedPair, readReturned};
+ghost use Rattle.replies.specs.PatchReplies.{patchesReply};
 
 // The least distance of a and b.
 #[no_mangle]
@@ -167,9 +39,10 @@ pub extern "C" fn viskorrel_3d_distance(
     floats2: &mut [f64],
     table2: &mut [u32],
 ) -> Reply
-    ensures { λ r. ⌜ returned r (workspaces (now (floats1 .exit)) (now (table1 .exit)) (now (floats2 .exit)) (now (table2 .exit))) [] ≡ returnedOf (distance (now (a .entry)) (now (b .entry)) (workspaces (now (floats1 .entry)) (now (table1 .entry)) (now (floats2 .entry)) (now (table2 .entry)))) ⌝ }
+    ensures whole_outcome { λ r. ⌜ returned r (left floats1 table1 floats2 table2) []
+        ≡ returnedOf (distance (now (a .entry)) (now (b .entry)) (lent floats1 table1 floats2 table2)) ⌝ }
 {
-    reply_to_answer(threed_closest::st_3d_distance(a, b, floats1, table1, floats2, table2))
+    replies::reply_to_answer(threed_closest::st_3d_distance(a, b, floats1, table1, floats2, table2))
 }
 
 // The greatest distance of a vertex of a from one of b.
@@ -182,9 +55,17 @@ pub extern "C" fn viskorrel_3d_max_distance(
     floats2: &mut [f64],
     table2: &mut [u32],
 ) -> Reply
-    ensures { λ r. ⌜ returned r (workspaces (now (floats1 .exit)) (now (table1 .exit)) (now (floats2 .exit)) (now (table2 .exit))) [] ≡ returnedOf (maxDistance (now (a .entry)) (now (b .entry)) (workspaces (now (floats1 .entry)) (now (table1 .entry)) (now (floats2 .entry)) (now (table2 .entry)))) ⌝ }
+    ensures whole_outcome { λ r. ⌜ returned r (left floats1 table1 floats2 table2) []
+        ≡ returnedOf (maxDistance (now (a .entry)) (now (b .entry)) (lent floats1 table1 floats2 table2)) ⌝ }
 {
-    reply_to_answer(threed_farthest::st_3d_max_distance(a, b, floats1, table1, floats2, table2))
+    replies::reply_to_answer(threed_farthest::st_3d_max_distance(
+        a,
+        b,
+        floats1,
+        table1,
+        floats2,
+        table2,
+    ))
 }
 
 // Whether a and b are at most d apart.
@@ -198,9 +79,18 @@ pub extern "C" fn viskorrel_3d_dwithin(
     floats2: &mut [f64],
     table2: &mut [u32],
 ) -> Reply
-    ensures { λ r. ⌜ returned r (workspaces (now (floats1 .exit)) (now (table1 .exit)) (now (floats2 .exit)) (now (table2 .exit))) [] ≡ returnedOf (within (now (a .entry)) (now (b .entry)) d (workspaces (now (floats1 .entry)) (now (table1 .entry)) (now (floats2 .entry)) (now (table2 .entry)))) ⌝ }
+    ensures whole_outcome { λ r. ⌜ returned r (left floats1 table1 floats2 table2) []
+        ≡ returnedOf (within (now (a .entry)) (now (b .entry)) d (lent floats1 table1 floats2 table2)) ⌝ }
 {
-    reply_to_decision(threed_closest::st_3d_dwithin(a, b, d, floats1, table1, floats2, table2))
+    replies::reply_to_decision(threed_closest::st_3d_dwithin(
+        a,
+        b,
+        d,
+        floats1,
+        table1,
+        floats2,
+        table2,
+    ))
 }
 
 // Whether no vertex of a is farther than d from one of b.
@@ -214,9 +104,10 @@ pub extern "C" fn viskorrel_3d_dfully_within(
     floats2: &mut [f64],
     table2: &mut [u32],
 ) -> Reply
-    ensures { λ r. ⌜ returned r (workspaces (now (floats1 .exit)) (now (table1 .exit)) (now (floats2 .exit)) (now (table2 .exit))) [] ≡ returnedOf (fullyWithin (now (a .entry)) (now (b .entry)) d (workspaces (now (floats1 .entry)) (now (table1 .entry)) (now (floats2 .entry)) (now (table2 .entry)))) ⌝ }
+    ensures whole_outcome { λ r. ⌜ returned r (left floats1 table1 floats2 table2) []
+        ≡ returnedOf (fullyWithin (now (a .entry)) (now (b .entry)) d (lent floats1 table1 floats2 table2)) ⌝ }
 {
-    reply_to_decision(threed_farthest::st_3d_dfully_within(
+    replies::reply_to_decision(threed_farthest::st_3d_dfully_within(
         a,
         b,
         d,
@@ -237,9 +128,17 @@ pub extern "C" fn viskorrel_3d_intersects(
     floats2: &mut [f64],
     table2: &mut [u32],
 ) -> Reply
-    ensures { λ r. ⌜ returned r (workspaces (now (floats1 .exit)) (now (table1 .exit)) (now (floats2 .exit)) (now (table2 .exit))) [] ≡ returnedOf (intersects (now (a .entry)) (now (b .entry)) (workspaces (now (floats1 .entry)) (now (table1 .entry)) (now (floats2 .entry)) (now (table2 .entry)))) ⌝ }
+    ensures whole_outcome { λ r. ⌜ returned r (left floats1 table1 floats2 table2) []
+        ≡ returnedOf (intersects (now (a .entry)) (now (b .entry)) (lent floats1 table1 floats2 table2)) ⌝ }
 {
-    reply_to_decision(threed_closest::st_3d_intersects(a, b, floats1, table1, floats2, table2))
+    replies::reply_to_decision(threed_closest::st_3d_intersects(
+        a,
+        b,
+        floats1,
+        table1,
+        floats2,
+        table2,
+    ))
 }
 
 // The point of a that is closest to b.
@@ -253,9 +152,11 @@ pub extern "C" fn viskorrel_3d_closest_point(
     table2: &mut [u32],
     output: &mut [u8],
 ) -> Reply
-    ensures { λ r. ⌜ returned r (workspaces (now (floats1 .exit)) (now (table1 .exit)) (now (floats2 .exit)) (now (table2 .exit))) (now (output .exit)) ≡ returnedOf (closestPoint (now (a .entry)) (now (b .entry)) (workspaces (now (floats1 .entry)) (now (table1 .entry)) (now (floats2 .entry)) (now (table2 .entry))) (now (output .entry))) ⌝ }
+    ensures whole_outcome { λ r. ⌜ returned r (left floats1 table1 floats2 table2) (now (output .exit))
+        ≡ returnedOf (closestPoint (now (a .entry)) (now (b .entry)) (lent floats1 table1 floats2 table2)
+        (now (output .entry))) ⌝ }
 {
-    reply_to_written(threed_closest::st_3d_closest_point(
+    replies::reply_to_written(threed_closest::st_3d_closest_point(
         a,
         b,
         floats1,
@@ -277,9 +178,14 @@ pub extern "C" fn viskorrel_3d_shortest_line(
     table2: &mut [u32],
     output: &mut [u8],
 ) -> Reply
-    ensures { λ r. ⌜ returned r (workspaces (now (floats1 .exit)) (now (table1 .exit)) (now (floats2 .exit)) (now (table2 .exit))) (now (output .exit)) ≡ returnedOf (shortestLine (now (a .entry)) (now (b .entry)) (workspaces (now (floats1 .entry)) (now (table1 .entry)) (now (floats2 .entry)) (now (table2 .entry))) (now (output .entry))) ⌝ }
+    ensures whole_outcome { λ r. ⌜ returned r (left floats1 table1 floats2 table2) (now (output .exit))
+        ≡ returnedOf (shortestLine (now (a .entry)) (now (b .entry)) (lent floats1 table1 floats2 table2)
+        (now (output .entry))) ⌝ }
+    ensures shortest_of_points { λ r. ⌜ ShortestOfPoints replyNothing (replyAnswered positiveZero)
+        (now (a .entry)) (now (b .entry)) (lent floats1 table1 floats2 table2) (now (output .entry))
+        r (now (output .exit)) ⌝ }
 {
-    reply_to_written(threed_closest::st_3d_shortest_line(
+    replies::reply_to_written(threed_closest::st_3d_shortest_line(
         a,
         b,
         floats1,
@@ -301,9 +207,14 @@ pub extern "C" fn viskorrel_3d_longest_line(
     table2: &mut [u32],
     output: &mut [u8],
 ) -> Reply
-    ensures { λ r. ⌜ returned r (workspaces (now (floats1 .exit)) (now (table1 .exit)) (now (floats2 .exit)) (now (table2 .exit))) (now (output .exit)) ≡ returnedOf (longestLine (now (a .entry)) (now (b .entry)) (workspaces (now (floats1 .entry)) (now (table1 .entry)) (now (floats2 .entry)) (now (table2 .entry))) (now (output .entry))) ⌝ }
+    ensures whole_outcome { λ r. ⌜ returned r (left floats1 table1 floats2 table2) (now (output .exit))
+        ≡ returnedOf (longestLine (now (a .entry)) (now (b .entry)) (lent floats1 table1 floats2 table2)
+        (now (output .entry))) ⌝ }
+    ensures longest_of_all { λ r. ⌜ LongestOfAll replyNothing (replyAnswered positiveZero)
+        (now (a .entry)) (now (b .entry)) (lent floats1 table1 floats2 table2) (now (output .entry))
+        r (now (output .exit)) ⌝ }
 {
-    reply_to_written(threed_farthest::st_3d_longest_line(
+    replies::reply_to_written(threed_farthest::st_3d_longest_line(
         a,
         b,
         floats1,
@@ -323,9 +234,11 @@ pub extern "C" fn viskorrel_3d_line_interpolate_point(
     table: &mut [u32],
     output: &mut [u8],
 ) -> Reply
-    ensures { λ r. ⌜ returned r (workspaces (now (floats .exit)) (now (table .exit)) [] []) (now (output .exit)) ≡ returnedOf (oneSided (interpolationOutcome (now (blob .entry)) fraction (now (floats .entry)) (now (table .entry)) (now (output .entry)))) ⌝ }
+    ensures whole_outcome { λ r. ⌜ returned r (leftOne floats table) (now (output .exit))
+        ≡ returnedOf (lineInterpolatePoint (now (blob .entry)) fraction (lentOne floats table)
+        (now (output .entry))) ⌝ }
 {
-    reply_to_interpolated(interpolation::st_3d_line_interpolate_point(
+    replies::reply_to_interpolated(interpolation::st_3d_line_interpolate_point(
         blob,
         fraction,
         floats,
@@ -339,7 +252,7 @@ pub extern "C" fn viskorrel_3d_line_interpolate_point(
 pub extern "C" fn viskorrel_patch(blob: &[u8], n: u64) -> PairReply
     ensures { λ r. ⌜ r ≡ patchReply (patchOf (now (blob .entry)) n) ⌝ }
 {
-    reply_to_patch(surface::patch_range(blob, n))
+    replies::reply_to_patch(surface::patch_range(blob, n))
 }
 
 // The lengths to lend for a blob: floats, then numbers of the table.
@@ -350,6 +263,22 @@ pub extern "C" fn viskorrel_sizes(blob: &[u8]) -> PairReply
     match blob::blob_sizes(blob) {
         Sizes::Lend { floats, numbers } => pair(ANSWERED, floats, numbers),
         Sizes::Refused(refusal) => pair_refused(refusal),
+    }
+}
+
+// A blob's coordinates and runs into lent memory: the floats filled, then the numbers of the table.
+#[no_mangle]
+pub extern "C" fn viskorrel_read(blob: &[u8], floats: &mut [f64], table: &mut [u32]) -> PairReply
+    ensures whole_outcome { λ r. ⌜ returnedPair r (leftOne floats table)
+        ≡ readReturned (now (blob .entry)) (lentOne floats table) ⌝ }
+{
+    match blob::read_blob(blob, floats, table) {
+        BlobRead::Read { coords, runs, srid } => pair(
+            ANSWERED,
+            FLOATS_PER_COORDINATE * coords,
+            NUMBERS_PER_RUN * runs,
+        ),
+        BlobRead::Refused(refusal) => pair_refused(refusal),
     }
 }
 
@@ -366,18 +295,6 @@ pub extern "C" fn viskorrel_patches(blob: &[u8]) -> PairReply
     }
 }
 
-// The reply to a patch.
-fn reply_to_patch(range: PatchRange) -> PairReply
-    ensures { λ r. ⌜ r ≡ patchReply (patchValue range) ⌝ }
-{
-    match range {
-        PatchRange::Part { start, end } => pair(ANSWERED, start, end),
-        PatchRange::Nothing => pair(NOTHING, 0, 0),
-        PatchRange::NoSurface => pair(NO_SURFACE, 0, 0),
-        PatchRange::Refused(refusal) => pair_refused(refusal),
-    }
-}
-
 // A cursor's next patch: C has the cursor's parts, and holds none.
 fn next_of_cursor(blob: &[u8], at: usize, left: u64) -> PatchRange
     ensures { λ r. ⌜ patchValue r ≡ nextOf (now (blob .entry)) at left ⌝ }
@@ -389,7 +306,9 @@ fn next_of_cursor(blob: &[u8], at: usize, left: u64) -> PatchRange
 #[no_mangle]
 pub extern "C" fn viskorrel_next_patch(blob: &[u8], at: usize, left: usize) -> PairReply
     ensures { λ r. ⌜ r ≡ patchReply (nextOf (now (blob .entry)) at left) ⌝ }
-    ensures patch_n { λ r. ⌜ ((n : ℕ) → Before (now (blob .entry)) at left n → (r ≡ patchReply (patchOf (now (blob .entry)) n)) × (r .case ≡ 1 → Before (now (blob .entry)) (r .second) (left - 1) (n + 1))) ⌝ }
+    ensures patch_n { λ r. ⌜ ((n : ℕ) → Before (now (blob .entry)) at left n
+        → (r ≡ patchReply (patchOf (now (blob .entry)) n))
+        × (r .case ≡ 1 → Before (now (blob .entry)) (r .second) (left - 1) (n + 1))) ⌝ }
 {
-    reply_to_patch(next_of_cursor(blob, at, left as u64))
+    replies::reply_to_patch(next_of_cursor(blob, at, left as u64))
 }

@@ -63,7 +63,7 @@ pub fn gp(srid: i32, geometry: Vec<u8>) -> Vec<u8> {
 }
 
 /// The points of a written blob.
-pub fn read(blob: &[u8]) -> Vec<P> {
+pub fn vertices(blob: &[u8]) -> Vec<P> {
     let from = match blob.len() {
         37 => 13,
         65 => 17,

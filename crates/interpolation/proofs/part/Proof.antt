@@ -10,12 +10,12 @@ clamp-requires c κs = search needs
 returns : tie.Need-returns
 returns c =
     let start = c .before in
-    part-of-none (start .args .rest) (start .args .length) (c .if1 .taken)
+    part-of-none (start .args .rest) (start .args .whole) (c .if1 .taken)
 
 returns-2 : tie.Need-returns-2
 returns-2 c =
     let start = c .before .before in
-    part-of-some (start .args .rest) (start .args .length) _ (c .before .if1 .left) (c .clamp .ensures)
+    part-of-some (start .args .rest) (start .args .whole) _ (c .before .if1 .left) (c .clamp .ensures)
 
 pub part-spec : {M : Type 1} → statement M
 part-spec = tie.close (tie.spec clamp-requires returns returns-2)

@@ -1,4 +1,6 @@
 -- `st_3d_line_interpolate_point` meets its contract. Assumes nothing.
+use mathlib.Core.List.{[]}
+use Rattle.operands.specs.Operands.{workspaces}
 use Rattle.interpolation.proofs.Order.{is-accepted}
 use Rattle.interpolation.proofs.Outcome.{outcome-refused, outcome-written}
 use Rattle.interpolation.specs.Operation.{reportOf}
@@ -29,7 +31,7 @@ returns : tie.Need-returns
 unfolding reportOf
 returns c =
     let start = c .before .before .before .before .before .before .before .before in
-    outcome-refused (start .args .s .now) (start .args .fraction) _ _ _ _ _ (c .before .before .before .check .ensures) ((c .before .refusal .given) .1)
+    outcome-refused (start .args .s .now) (start .args .fraction) (workspaces (start .args .floats .now) (start .args .table .now) [] []) _ _ _ (c .before .before .before .check .ensures) ((c .before .refusal .given) .1)
 
 same-length : tie.Need-same-length
 same-length c = search needs
@@ -44,7 +46,7 @@ returns-2 : tie.Need-returns-2
 unfolding reportOf
 returns-2 c =
     let start = c .before .before .before .before .before .before .before .before .before .before .before .before .before .before .before .before .before .before .before in
-    outcome-written (start .args .s .now) (start .args .fraction) _ _ _ _ _ _ _ (is-accepted (start .args .s .now) (start .args .fraction) _ _ _ _ _ _ _ _ (c .before .before .before .before .before .before .before .before .before .before .before .before .before .before .check .ensures) ((c .before .before .before .before .before .before .before .before .before .before .before .before .at .given) .1)) _ _ _ (c .before .before .before .before .before .before .before .before .read-point .ensures) _ (c .before .before .write-point .ensures)
+    outcome-written (start .args .s .now) (start .args .fraction) (workspaces (start .args .floats .now) (start .args .table .now) [] []) _ _ _ _ _ (is-accepted (start .args .s .now) (start .args .fraction) _ _ _ _ _ _ _ _ (c .before .before .before .before .before .before .before .before .before .before .before .before .before .before .check .ensures) ((c .before .before .before .before .before .before .before .before .before .before .before .before .at .given) .1)) _ _ _ (c .before .before .before .before .before .before .before .before .read-point .ensures) _ (c .before .before .write-point .ensures)
 
 pub st-3d-line-interpolate-point-spec : {M : Type 1} → statement M
 st-3d-line-interpolate-point-spec =

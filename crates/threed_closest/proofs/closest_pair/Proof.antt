@@ -71,7 +71,7 @@ returns c =
     let e = c .before .before .before .before .before .before .before .before .before .before .before .before .before .before .before .before .before .before .before .before .before .before .before .before .before .before .before .before .before .before in
     let h1 = handed-first (e .args .a .now) (e .args .b .now) (e .args .o) _ _ _ _ (e .pre .0) (e .pre .1) _ _ _ _ (c .before .before .before .before .before .before .before .before .before .before .before .before .before .fill .ensures) in
     let h2 = handed-second (e .args .a .now) (e .args .b .now) (e .args .o) _ _ _ _ (e .pre .0) (e .pre .1) _ _ _ _ (c .before .before .before .before .before .before .before .before .before .before .before .before .before .fill .ensures) in
-    record { pair = c .closest .ensures ∙ rw (h1 .items, h2 .items); memory = c .before .before .before .before .before .before .before .before .before .before .before .before .before .fill .ensures }
+    record { found = c .closest .ensures ∙ rw (h1 .items, h2 .items); memory = c .before .before .before .before .before .before .before .before .before .before .before .before .before .fill .ensures }
 
 pub closest-pair-spec : {M : Type 1} → statement M
 closest-pair-spec =

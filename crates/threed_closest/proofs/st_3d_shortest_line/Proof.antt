@@ -4,8 +4,7 @@ use Rattle.operands.specs.Operands.{workspaces}
 use Rattle.operands.specs.declared.Operands.{Operands}
 use Rattle.outcomes.specs.Answers.{writtenReport}
 use Rattle.outcomes.specs.Operations.{closestPair, blobValue, lineAfter, lineChecks, shortestLine}
-use Rattle.outcomes.proofs.Outcomes.{refused-first, accepted, write-refused, write-short, write-answered}
-use Rattle.threed_closest.proofs.Pair.{closest-told}
+use Rattle.outcomes.proofs.Outcomes.{told, refused-first, accepted, write-refused, write-short, write-answered}
 use Rattle.threed_closest.proofs.ShortestLine.{shortest-of-outcome}
 use borrow.Author.Needs.{needs}
 use Rattle.threed_closest.proofs.st_3d_shortest_line.Statement.{statement}
@@ -72,7 +71,7 @@ returns-3 c =
     let w = workspaces (e .args .floats1 .now) (e .args .table1 .now) (e .args .floats2 .now) (e .args .table2 .now) in
     let s = accepted (e .args .a .now) (e .args .b .now) w _ (c .before .before .before .before .before .before .before .before .before .before .before .before .before .before .before .before .before .before .before .check .ensures) _ ((c .before .before .before .before .before .before .before .before .before .before .before .before .before .before .before .before .before .o .given) .1) in
     let read = c .before .before .before .before .before .before .before .before .before .before .closest-pair .ensures in
-    let r = write-answered (e .args .a .now) (e .args .b .now) (closestPair (e .args .a .now) (e .args .b .now)) lineAfter 65 w (e .args .output .now) (s .none-holds) (c .before .before .before .before .before .before .before .before .before .before .before .before .before .before .before .if1 .left) _ (read .memory) _ (closest-told (e .args .a .now) (e .args .b .now) w _ _ read _ ((c .enum-told .given) .1)) _ refl _ refl in
+    let r = write-answered (e .args .a .now) (e .args .b .now) (closestPair (e .args .a .now) (e .args .b .now)) lineAfter 65 w (e .args .output .now) (s .none-holds) (c .before .before .before .before .before .before .before .before .before .before .before .before .before .before .before .if1 .left) _ (read .memory) _ (told _ _ _ (read .found) ((c .enum-told .given) .1)) _ refl _ refl in
     (r, shortest-of-outcome (e .args .a .now) (e .args .b .now) w (e .args .output .now) (λ i. c .before .before .before .before .before .before .before .before .before .before .before .before .before .before .before .before .before .before .before .before .before .before .before .before .before .before .shared-slice-known .given i .fits) (λ i. c .before .before .before .before .before .before .before .before .before .before .before .before .before .before .before .before .before .before .before .before .before .before .before .before .before .shared-slice-known2 .given i .fits) _ r)
 
 same-length-5 : tie.Need-same-length-5
@@ -97,7 +96,7 @@ returns-4 c =
     let w = workspaces (e .args .floats1 .now) (e .args .table1 .now) (e .args .floats2 .now) (e .args .table2 .now) in
     let s = accepted (e .args .a .now) (e .args .b .now) w _ (c .before .before .before .before .before .before .before .before .before .before .before .before .before .before .before .before .before .before .before .before .before .before .before .before .check .ensures) _ ((c .before .before .before .before .before .before .before .before .before .before .before .before .before .before .before .before .before .before .before .before .before .before .o .given) .1) in
     let read = c .before .before .before .before .before .before .before .before .before .before .before .before .before .before .before .closest-pair .ensures in
-    let r = write-answered (e .args .a .now) (e .args .b .now) (closestPair (e .args .a .now) (e .args .b .now)) lineAfter 65 w (e .args .output .now) (s .none-holds) (c .before .before .before .before .before .before .before .before .before .before .before .before .before .before .before .before .before .before .before .before .if1 .left) _ (read .memory) _ (closest-told (e .args .a .now) (e .args .b .now) w _ _ read _ ((c .before .before .before .before .before .w .given) .1)) _ (ap (λ (o : Operands). o .srid) (s .own)) _ (c .before .before .write-line .ensures) in
+    let r = write-answered (e .args .a .now) (e .args .b .now) (closestPair (e .args .a .now) (e .args .b .now)) lineAfter 65 w (e .args .output .now) (s .none-holds) (c .before .before .before .before .before .before .before .before .before .before .before .before .before .before .before .before .before .before .before .before .if1 .left) _ (read .memory) _ (told _ _ _ (read .found) ((c .before .before .before .before .before .w .given) .1)) _ (ap (λ (o : Operands). o .srid) (s .own)) _ (c .before .before .write-line .ensures) in
     (r, shortest-of-outcome (e .args .a .now) (e .args .b .now) w (e .args .output .now) (λ i. c .before .before .before .before .before .before .before .before .before .before .before .before .before .before .before .before .before .before .before .before .before .before .before .before .before .before .before .before .before .before .before .shared-slice-known .given i .fits) (λ i. c .before .before .before .before .before .before .before .before .before .before .before .before .before .before .before .before .before .before .before .before .before .before .before .before .before .before .before .before .before .before .shared-slice-known2 .given i .fits) _ r)
 
 pub st-3d-shortest-line-spec : {M : Type 1} → statement M

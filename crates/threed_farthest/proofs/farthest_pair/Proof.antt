@@ -71,7 +71,7 @@ returns c =
     let e = c .before .before .before .before .before .before .before .before .before .before .before .before .before .before .before .before .before .before .before .before .before .before .before .before .before .before .before .before .before .before in
     let h1 = handed-first (e .args .a .now) (e .args .b .now) (e .args .o) _ _ _ _ (e .pre .0) (e .pre .1) _ _ _ _ (c .before .before .before .before .before .before .before .before .before .before .before .before .before .fill .ensures) in
     let h2 = handed-second (e .args .a .now) (e .args .b .now) (e .args .o) _ _ _ _ (e .pre .0) (e .pre .1) _ _ _ _ (c .before .before .before .before .before .before .before .before .before .before .before .before .before .fill .ensures) in
-    record { pair = c .farthest .ensures ∙ rw (h1 .vertices, h2 .vertices); memory = c .before .before .before .before .before .before .before .before .before .before .before .before .before .fill .ensures }
+    record { found = c .farthest .ensures ∙ rw (h1 .vertices, h2 .vertices); memory = c .before .before .before .before .before .before .before .before .before .before .before .before .before .fill .ensures }
 
 pub farthest-pair-spec : {M : Type 1} → statement M
 farthest-pair-spec =

@@ -2,8 +2,7 @@
 use Rattle.operands.specs.Operands.{workspaces}
 use Rattle.outcomes.specs.Answers.{answerReport}
 use Rattle.outcomes.specs.Operations.{farthestPair, distanceValue, maxDistance}
-use Rattle.outcomes.proofs.Outcomes.{refused-first, accepted, measure-refused, measure-answered}
-use Rattle.threed_farthest.proofs.Pair.{farthest-told}
+use Rattle.outcomes.proofs.Outcomes.{told, refused-first, accepted, measure-refused, measure-answered}
 use borrow.Author.Needs.{needs}
 use Rattle.threed_farthest.proofs.st_3d_max_distance.Statement.{statement}
 use Rattle.threed_farthest.proofs.st_3d_max_distance.Tie as tie
@@ -56,7 +55,7 @@ returns-2 c =
     let w = workspaces (e .args .floats1 .now) (e .args .table1 .now) (e .args .floats2 .now) (e .args .table2 .now) in
     let s = accepted (e .args .a .now) (e .args .b .now) w _ (c .before .before .before .before .before .before .before .before .before .before .before .before .before .before .before .before .before .before .check .ensures) _ ((c .before .before .before .before .before .before .before .before .before .before .before .before .before .before .before .before .o .given) .1) in
     let read = c .before .before .before .before .before .before .before .before .before .before .farthest-pair .ensures in
-    measure-answered (e .args .a .now) (e .args .b .now) (farthestPair (e .args .a .now) (e .args .b .now)) distanceValue w (s .none-holds) _ (read .memory) _ (farthest-told (e .args .a .now) (e .args .b .now) w _ _ read _ ((c .enum-told .given) .1))
+    measure-answered (e .args .a .now) (e .args .b .now) (farthestPair (e .args .a .now) (e .args .b .now)) distanceValue w (s .none-holds) _ (read .memory) _ (told _ _ _ (read .found) ((c .enum-told .given) .1))
 
 same-length-5 : tie.Need-same-length-5
 same-length-5 c = c .before .before .before .before .before .before .before .before .before .before .before .farthest-pair .kept .1 .1 .1 .0
@@ -77,7 +76,7 @@ returns-3 c =
     let w = workspaces (e .args .floats1 .now) (e .args .table1 .now) (e .args .floats2 .now) (e .args .table2 .now) in
     let s = accepted (e .args .a .now) (e .args .b .now) w _ (c .before .before .before .before .before .before .before .before .before .before .before .before .before .before .before .before .before .before .before .check .ensures) _ ((c .before .before .before .before .before .before .before .before .before .before .before .before .before .before .before .before .before .o .given) .1) in
     let read = c .before .before .before .before .before .before .before .before .before .before .before .farthest-pair .ensures in
-    measure-answered (e .args .a .now) (e .args .b .now) (farthestPair (e .args .a .now) (e .args .b .now)) distanceValue w (s .none-holds) _ (read .memory) _ (farthest-told (e .args .a .now) (e .args .b .now) w _ _ read _ ((c .before .w .given) .1))
+    measure-answered (e .args .a .now) (e .args .b .now) (farthestPair (e .args .a .now) (e .args .b .now)) distanceValue w (s .none-holds) _ (read .memory) _ (told _ _ _ (read .found) ((c .before .w .given) .1))
 
 pub st-3d-max-distance-spec : {M : Type 1} → statement M
 st-3d-max-distance-spec =

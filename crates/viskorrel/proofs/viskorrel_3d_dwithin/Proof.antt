@@ -1,5 +1,5 @@
 -- `viskorrel::viskorrel_3d_dwithin` meets its contract. Assumes nothing.
-use Rattle.viskorrel.proofs.Returned.{as-returned}
+use Rattle.replies.proofs.Returned.{as-returned}
 use borrow.Author.Needs.{needs}
 use Rattle.viskorrel.proofs.viskorrel_3d_dwithin.Statement.{statement}
 use Rattle.viskorrel.proofs.viskorrel_3d_dwithin.Tie as tie

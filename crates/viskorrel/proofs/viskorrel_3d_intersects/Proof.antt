@@ -1,5 +1,5 @@
 -- `viskorrel::viskorrel_3d_intersects` meets its contract. Assumes nothing.
-use Rattle.viskorrel.proofs.Returned.{as-returned}
+use Rattle.replies.proofs.Returned.{as-returned}
 use borrow.Author.Needs.{needs}
 use Rattle.viskorrel.proofs.viskorrel_3d_intersects.Statement.{statement}
 use Rattle.viskorrel.proofs.viskorrel_3d_intersects.Tie as tie

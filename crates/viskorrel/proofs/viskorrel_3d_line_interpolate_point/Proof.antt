@@ -1,7 +1,5 @@
 -- `viskorrel::viskorrel_3d_line_interpolate_point` meets its contract. Assumes nothing.
-use mathlib.Core.Path.{ap}
-use Rattle.viskorrel.specs.Replies.{oneSided}
-use Rattle.viskorrel.proofs.Returned.{as-returned}
+use Rattle.replies.proofs.Returned.{as-returned}
 use borrow.Author.Needs.{needs}
 use Rattle.viskorrel.proofs.viskorrel_3d_line_interpolate_point.Statement.{statement}
 use Rattle.viskorrel.proofs.viskorrel_3d_line_interpolate_point.Tie as tie
@@ -22,8 +20,7 @@ same-length-3 : tie.Need-same-length-3
 same-length-3 c = search needs
 
 returns : tie.Need-returns
-unfolding oneSided
-returns c = as-returned _ _ _ _ _ (ap oneSided (c .before .before .before .before .before .before .before .st-3d-line-interpolate-point .ensures)) (c .reply-to-interpolated .ensures)
+returns c = as-returned _ _ _ _ _ (c .before .before .before .before .before .before .before .st-3d-line-interpolate-point .ensures) (c .reply-to-interpolated .ensures)
 
 pub viskorrel-3d-line-interpolate-point-spec : {M : Type 1} → statement M
 viskorrel-3d-line-interpolate-point-spec =

@@ -1,5 +1,6 @@
 -- `viskorrel::viskorrel_3d_longest_line` meets its contract. Assumes nothing.
-use Rattle.viskorrel.proofs.Returned.{as-returned}
+use Rattle.replies.proofs.Returned.{as-returned}
+use Rattle.replies.proofs.LineReplies.{longest-reply}
 use borrow.Author.Needs.{needs}
 use Rattle.viskorrel.proofs.viskorrel_3d_longest_line.Statement.{statement}
 use Rattle.viskorrel.proofs.viskorrel_3d_longest_line.Tie as tie
@@ -26,7 +27,7 @@ same-length-5 : tie.Need-same-length-5
 same-length-5 c = search needs
 
 returns : tie.Need-returns
-returns c = as-returned _ _ _ _ _ (c .before .before .before .before .before .before .before .before .before .before .before .st-3d-longest-line .ensures .0) (c .reply-to-written .ensures)
+returns c = (as-returned _ _ _ _ _ (c .before .before .before .before .before .before .before .before .before .before .before .st-3d-longest-line .ensures .0) (c .reply-to-written .ensures), longest-reply _ _ _ _ _ _ _ (c .reply-to-written .ensures) (c .before .before .before .before .before .before .before .before .before .before .before .st-3d-longest-line .ensures .1))
 
 pub viskorrel-3d-longest-line-spec : {M : Type 1} → statement M
 viskorrel-3d-longest-line-spec =

@@ -1,7 +1,7 @@
 -- `viskorrel::viskorrel_next_patch` meets its contract. Assumes nothing.
 use mathlib.Core.Path.{ap, _∙_}
-use Rattle.viskorrel.specs.Replies.{patchReply}
-use Rattle.viskorrel.proofs.PatchSteps.{next-told}
+use Rattle.replies.specs.Replies.{patchReply}
+use Rattle.replies.proofs.PatchSteps.{next-told}
 use borrow.Author.Needs.{needs}
 use Rattle.viskorrel.proofs.viskorrel_next_patch.Statement.{statement}
 use Rattle.viskorrel.proofs.viskorrel_next_patch.Tie as tie

@@ -1,6 +1,6 @@
 -- `viskorrel::viskorrel_patch` meets its contract. Assumes nothing.
 use mathlib.Core.Path.{ap, _∙_}
-use Rattle.viskorrel.specs.Replies.{patchReply}
+use Rattle.replies.specs.Replies.{patchReply}
 use borrow.Author.Needs.{needs}
 use Rattle.viskorrel.proofs.viskorrel_patch.Statement.{statement}
 use Rattle.viskorrel.proofs.viskorrel_patch.Tie as tie

@@ -1,6 +1,6 @@
 -- `viskorrel::viskorrel_patches` meets its contract. Assumes nothing.
-use Rattle.viskorrel.specs.PatchReplies.{patchesReply}
-use Rattle.viskorrel.proofs.PatchSteps.{list-told}
+use Rattle.replies.specs.PatchReplies.{patchesReply}
+use Rattle.replies.proofs.PatchSteps.{list-told}
 use borrow.Author.Needs.{needs}
 use Rattle.viskorrel.proofs.viskorrel_patches.Statement.{statement}
 use Rattle.viskorrel.proofs.viskorrel_patches.Tie as tie

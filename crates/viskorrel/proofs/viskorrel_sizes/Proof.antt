@@ -1,5 +1,5 @@
 -- `viskorrel::viskorrel_sizes` meets its contract. Assumes nothing.
-use Rattle.viskorrel.specs.Replies.{sizesReply}
+use Rattle.replies.specs.Replies.{sizesReply}
 use borrow.Author.Needs.{needs}
 use Rattle.viskorrel.proofs.viskorrel_sizes.Statement.{statement}
 use Rattle.viskorrel.proofs.viskorrel_sizes.Tie as tie

@@ -1,0 +1,126 @@
+-- Blobs that are measured alike get the same report and output from every operation, on either side. Assumes nothing.
+use Prim.Native.Nat.{ℕ}
+use mathlib.Core.Path.{_≡_, refl, sym, ap, _∙_}
+use mathlib.Core.List.{List, [], _++_}
+use mathlib.Core.Option.{Option, none, some}
+use lib.ListN.{length}
+use lib.Ieee.{Float}
+use Rattle.refusals.specs.Checks.{Check, firstOf, onSide}
+use Rattle.refusals.specs.declared.Refusal.{Refusal}
+use Rattle.refusals.proofs.Sides.{first-on-side, first-of-two}
+use Rattle.gpb.specs.Header.{geometryStart, sridOf, headerChecks3d}
+use Rattle.gpb.specs.Written.{pointBytes}
+use Rattle.coords.specs.Walk.{Parsed, Geometry}
+use Rattle.coords.specs.Parts.{mapRuns, walkedRuns, coordinateCount, verticesOf}
+use Rattle.coords.specs.Refusals.{walkChecks}
+use Rattle.coords.proofs.Parts.{vertices-map}
+use Rattle.blob.specs.Blob.{walkOfBlob, runsOfBlob}
+use Rattle.blob.specs.Ignored.{SameButIgnored}
+use Rattle.blob.proofs.Ignored.{ignored-changes-nothing}
+use Rattle.parts.specs.Points.{pointOf}
+use Rattle.primitives.specs.declared.Witness.{Witness}
+use Rattle.items.specs.Items.{itemsOf}
+use Rattle.operands.specs.Operands.{Workspaces, workspaceChecks, operandChecks, lentChecks}
+use Rattle.outcomes.specs.Answers.{Report, answering}
+use Rattle.outcomes.specs.Operations.{outcome, toleranceChecks, outputChecks, unless, vertexPoints, itemsOfBlob, farthestPair, closestPair, distanceValue, withinValue, touchingValue, blobValue, lineAfter, pointAfter, maxDistance, fullyWithin, lineChecks, longestLine, distance, within, intersects, closestPoint, shortestLine}
+use Rattle.outcomes.specs.Alike.{MeasuredAlike, AnswersAlike}
+
+-- ---- what is ignored of a blob
+
+-- a blob that differs from another in what is ignored alone is measured alike
+pub ignored-measured-alike : (s t : List ℕ) → SameButIgnored s t → MeasuredAlike s t
+ignored-measured-alike s t h =
+    let r = ignored-changes-nothing s t h in
+    record {
+      header = ap firstOf (r .header);
+      header-3d = ap firstOf (r .header-3d);
+      walk = ap firstOf (r .walk-refusals);
+      srid = r .srid;
+      coordinates = ap (λ (w : Parsed Geometry). coordinateCount (walkedRuns w)) (r .walk);
+      runs = ap (λ (w : Parsed Geometry). length (walkedRuns w)) (r .walk);
+      points = ap (λ (w : Parsed Geometry). mapRuns pointOf (walkedRuns w)) (r .walk);
+    }
+
+-- every blob is measured as itself: the law for one side is that for both
+pub measured-as-itself : (s : List ℕ) → MeasuredAlike s s
+measured-as-itself s = record { header = refl; header-3d = refl; walk = refl; srid = refl; coordinates = refl; runs = refl; points = refl }
+
+-- ---- refusals
+
+pub two-alike : (cs cs′ ds ds′ : List (Check Refusal)) → firstOf cs ≡ firstOf cs′ → firstOf ds ≡ firstOf ds′ → firstOf (cs ++ ds) ≡ firstOf (cs′ ++ ds′)
+two-alike cs cs′ ds ds′ p q = first-of-two cs ds ∙ (rw (p, q) (sym (first-of-two cs′ ds′)))
+
+pub side-alike : (side : ℕ) (cs cs′ : List (Check ℕ)) → firstOf cs ≡ firstOf cs′ → firstOf (onSide side cs) ≡ firstOf (onSide side cs′)
+side-alike side cs cs′ p = first-on-side side cs ∙ (rw p (sym (first-on-side side cs′)))
+
+-- ---- outcomes
+
+pub alike : (x y : Option Refusal) (r r′ : Report) (m m′ w : Workspaces) (o o′ l : List ℕ) → x ≡ y → r ≡ r′ → o ≡ o′ → AnswersAlike (unless x (outcome r m o) w l) (unless y (outcome r′ m′ o′) w l)
+unfolding unless
+alike x y r r′ m m′ w o o′ l e p q = rw e (go y)
+  where
+    go : (z : Option Refusal) → AnswersAlike (unless z (outcome r m o) w l) (unless z (outcome r′ m′ o′) w l)
+    go none = record { report = p; output = q }
+    go (some t) = record { report = refl; output = refl }
+
+module _ (a a′ b b′ : List ℕ) (first : MeasuredAlike a a′) (second : MeasuredAlike b b′) where
+  -- ---- the pairs
+
+  vertices-alike : (s t : List ℕ) → MeasuredAlike s t → vertexPoints s ≡ vertexPoints t
+  vertices-alike s t h = sym (vertices-map pointOf (runsOfBlob s)) ∙ (ap verticesOf (h .points) ∙ vertices-map pointOf (runsOfBlob t))
+
+  farthest-alike : farthestPair a b ≡ farthestPair a′ b′
+  unfolding farthestPair
+  farthest-alike = rw (vertices-alike a a′ first, vertices-alike b b′ second)
+
+  closest-alike : closestPair a b ≡ closestPair a′ b′
+  unfolding closestPair
+  closest-alike = rw (first .points, second .points)
+
+  module _ (w : Workspaces) where
+    lent-alike : firstOf (lentChecks a b w) ≡ firstOf (lentChecks a′ b′ w)
+    unfolding operandChecks workspaceChecks
+    lent-alike =
+        two-alike _ _ _ _ (side-alike 1 _ _ (first .header-3d))
+        (two-alike _ _ _ _ (side-alike 2 _ _ (second .header-3d))
+        (two-alike _ _ _ _ (side-alike 1 _ _ (first .walk))
+        (two-alike _ _ _ _ (side-alike 2 _ _ (second .walk))
+        (rw (first .coordinates, first .runs, second .coordinates, second .runs)))))
+
+    line-alike : (lent : List ℕ) → firstOf (lineChecks a b w lent) ≡ firstOf (lineChecks a′ b′ w lent)
+    unfolding lineChecks
+    line-alike lent = two-alike _ _ _ _ lent-alike refl
+
+    -- ---- the operations
+
+    pub max-distance-alike : AnswersAlike (maxDistance a b w) (maxDistance a′ b′ w)
+    unfolding maxDistance
+    max-distance-alike = alike _ _ _ _ _ _ _ _ _ _ lent-alike (ap (λ (p : Option Witness). answering (distanceValue p)) farthest-alike) refl
+
+    pub fully-within-alike : (d : Float) → AnswersAlike (fullyWithin a b d w) (fullyWithin a′ b′ d w)
+    unfolding fullyWithin
+    fully-within-alike d = alike _ _ _ _ _ _ _ _ _ _ (two-alike (toleranceChecks d) _ _ _ refl lent-alike) (ap (λ (p : Option Witness). answering (withinValue d p)) farthest-alike) refl
+
+    pub longest-line-alike : (lent : List ℕ) → AnswersAlike (longestLine a b w lent) (longestLine a′ b′ w lent)
+    unfolding longestLine
+    longest-line-alike lent = alike _ _ _ _ _ _ _ _ _ _ (line-alike lent) (ap (λ (p : Option Witness). answering (blobValue p)) farthest-alike) (rw (first .srid, farthest-alike))
+
+    pub distance-alike : AnswersAlike (distance a b w) (distance a′ b′ w)
+    unfolding distance
+    distance-alike = alike _ _ _ _ _ _ _ _ _ _ lent-alike (ap (λ (p : Option Witness). answering (distanceValue p)) closest-alike) refl
+
+    pub within-alike : (d : Float) → AnswersAlike (within a b d w) (within a′ b′ d w)
+    unfolding within
+    within-alike d = alike _ _ _ _ _ _ _ _ _ _ (two-alike (toleranceChecks d) _ _ _ refl lent-alike) (ap (λ (p : Option Witness). answering (withinValue d p)) closest-alike) refl
+
+    pub intersects-alike : AnswersAlike (intersects a b w) (intersects a′ b′ w)
+    unfolding intersects
+    intersects-alike = alike _ _ _ _ _ _ _ _ _ _ lent-alike (ap (λ (p : Option Witness). answering (touchingValue p)) closest-alike) refl
+
+    pub closest-point-alike : (lent : List ℕ) → AnswersAlike (closestPoint a b w lent) (closestPoint a′ b′ w lent)
+    unfolding closestPoint
+    closest-point-alike lent = alike _ _ _ _ _ _ _ _ _ _ (two-alike _ _ (outputChecks pointBytes lent) _ lent-alike refl) (ap (λ (p : Option Witness). answering (blobValue p)) closest-alike) (rw (first .srid, closest-alike))
+
+    pub shortest-line-alike : (lent : List ℕ) → AnswersAlike (shortestLine a b w lent) (shortestLine a′ b′ w lent)
+    unfolding shortestLine
+    shortest-line-alike lent = alike _ _ _ _ _ _ _ _ _ _ (line-alike lent) (ap (λ (p : Option Witness). answering (blobValue p)) closest-alike) (rw (first .srid, closest-alike))

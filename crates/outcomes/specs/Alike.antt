@@ -1,0 +1,28 @@
+-- Blobs that every operation measures alike: what an operation takes from a blob (document 01: "Trailing bytes, envelope doubles and the
+-- empty flag change nothing but kind 17's patch"). Definitions only.
+use Prim.Native.Nat.{ℕ}
+use mathlib.Core.Path.{_≡_}
+use mathlib.Core.List.{List}
+use lib.ListN.{length}
+use Rattle.refusals.specs.Checks.{firstOf}
+use Rattle.gpb.specs.Header.{geometryStart, sridOf, headerChecks, headerChecks3d}
+use Rattle.coords.specs.Parts.{mapRuns, coordinateCount}
+use Rattle.coords.specs.Refusals.{walkChecks}
+use Rattle.blob.specs.Blob.{runsOfBlob}
+use Rattle.parts.specs.Points.{pointOf}
+use Rattle.outcomes.specs.Operations.{Outcome}
+
+-- the same refusals, SRID, needs of lent memory, and points of runs
+pub record MeasuredAlike (s t : List ℕ) : Type 0 where
+  pub header : firstOf (headerChecks s) ≡ firstOf (headerChecks t)
+  pub header-3d : firstOf (headerChecks3d s) ≡ firstOf (headerChecks3d t)
+  pub walk : firstOf (walkChecks s (geometryStart s)) ≡ firstOf (walkChecks t (geometryStart t))
+  pub srid : sridOf s ≡ sridOf t
+  pub coordinates : coordinateCount (runsOfBlob s) ≡ coordinateCount (runsOfBlob t)
+  pub runs : length (runsOfBlob s) ≡ length (runsOfBlob t)
+  pub points : mapRuns pointOf (runsOfBlob s) ≡ mapRuns pointOf (runsOfBlob t)
+
+-- two calls answer alike: the same report, the same output
+pub record AnswersAlike (o p : Outcome) : Type 0 where
+  pub report : o .report ≡ p .report
+  pub output : o .output ≡ p .output

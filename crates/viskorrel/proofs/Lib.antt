@@ -1,3 +1,0 @@
--- What an export returns, from what its operation did.
-pub mod Returned
-pub mod PatchSteps
