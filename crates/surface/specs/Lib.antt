@@ -1,2 +1,3 @@
 pub mod Patches
 pub mod Inner
+pub mod Cursors

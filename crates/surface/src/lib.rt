@@ -7,7 +7,8 @@ ghost use mathlib.Core.Path.{_≡_};
 ghost use mathlib.Core.List.{[], _∷_};
 ghost use Prim.Native.Nat.{ℕ, _+_, _-_};
 ghost use Rattle.coords.specs.Walk.{headerAt, times};
-ghost use Rattle.surface.specs.Patches.{patchAt, patchesFrom, surfaceKind, patchValue, refusing, part, patchIn, patchOf, bytesOf, listIn, listOf, nextOf, Before};
+ghost use Rattle.surface.specs.Patches.{patchAt, patchesFrom, surfaceKind, patchValue, refusing, part, patchIn, patchOf, bytesOf, listIn, listOf, nextOf};
+ghost use Rattle.surface.specs.Cursors.{nextBy, patchBy, bytesBy, StandsBefore};
 ghost use Rattle.surface.specs.Inner.{endOf, countFrom};
 ghost use Rattle.surface.specs.declared.PatchRange.the-variants.{Part};
 ghost use Rattle.surface.specs.declared.PatchList.the-variants.{Listed};
@@ -262,23 +263,23 @@ impl<'a> Cursor<'a> {
     // The cursor at a position; at a list's start, before patch 0.
     pub fn new(blob: &'a [u8], at: usize, left: u64) -> Cursor<'a>
         ensures made { λ r. ⌜ (r .blob ≡ blob .entry) × (r .at ≡ at) × (r .left ≡ left) ⌝ }
-        ensures first { λ r. ⌜ (listOf (now (blob .entry)) ≡ Listed at left → Before (now (r .blob)) (r .at) (r .left) 0) ⌝ }
+        ensures first { λ r. ⌜ (listOf (now (blob .entry)) ≡ Listed at left → StandsBefore r 0) ⌝ }
     {
         Cursor { blob, at, left }
     }
 
     // Where the next patch stands: patch n, before which the cursor stands.
     pub fn next(self) -> PatchRange
-        ensures next { λ r. ⌜ patchValue r ≡ nextOf (now (self .entry .blob)) (self .entry .at) (self .entry .left) ⌝ }
-        ensures patch_n { λ r. ⌜ ((n : ℕ) → Before (now (self .entry .blob)) (self .entry .at) (self .entry .left) n → patchValue r ≡ patchOf (now (self .entry .blob)) n) ⌝ }
+        ensures next { λ r. ⌜ patchValue r ≡ nextBy (self .entry) ⌝ }
+        ensures patch_n { λ r. ⌜ ((n : ℕ) → StandsBefore (self .entry) n → patchValue r ≡ patchBy (self .entry) n) ⌝ }
     {
         next_range(self.blob, self.at, self.left)
     }
 
     // The bytes of the next patch: of patch n, before which the cursor stands.
     pub fn patch(self) -> &'a [u8]
-        ensures next { λ r. ⌜ now r ≡ bytesOf (now (self .entry .blob)) (nextOf (now (self .entry .blob)) (self .entry .at) (self .entry .left)) ⌝ }
-        ensures patch_n { λ r. ⌜ ((n : ℕ) → Before (now (self .entry .blob)) (self .entry .at) (self .entry .left) n → now r ≡ bytesOf (now (self .entry .blob)) (patchOf (now (self .entry .blob)) n)) ⌝ }
+        ensures next { λ r. ⌜ now r ≡ bytesBy (self .entry) (nextBy (self .entry)) ⌝ }
+        ensures patch_n { λ r. ⌜ ((n : ℕ) → StandsBefore (self .entry) n → now r ≡ bytesBy (self .entry) (patchBy (self .entry) n)) ⌝ }
     {
         next_bytes(self.blob, self.at, self.left)
     }
@@ -286,7 +287,7 @@ impl<'a> Cursor<'a> {
     // The cursor after a patch that ends there: after patch n, before patch n + 1.
     pub fn after(self, end: usize) -> Cursor<'a>
         ensures made { λ r. ⌜ (r .blob ≡ self .entry .blob) × (r .at ≡ end) × (r .left ≡ self .entry .left - 1) ⌝ }
-        ensures one_on { λ r. ⌜ ((n start : ℕ) → Before (now (self .entry .blob)) (self .entry .at) (self .entry .left) n → patchOf (now (self .entry .blob)) n ≡ part start end → Before (now (r .blob)) (r .at) (r .left) (n + 1)) ⌝ }
+        ensures one_on { λ r. ⌜ ((n start : ℕ) → StandsBefore (self .entry) n → patchBy (self .entry) n ≡ part start end → StandsBefore r (n + 1)) ⌝ }
     {
         let left = one_less(self.left);
         Cursor {
