@@ -116,26 +116,38 @@ def prove():
 
 def run(progress):
     """Runs rt; its lines go to the log, what they tell of the crates is shown."""
-    with open(LOG, "w", encoding="utf-8") as log:
+    with heard() as stopped, open(LOG, "w", encoding="utf-8") as log, open(LOG, encoding="utf-8", errors="replace") as lines:
         process = subprocess.Popen(["rt", "staticlib", "viskorrel"], cwd=ROOT, stdin=subprocess.DEVNULL, stdout=log, stderr=log,
                                    start_new_session=True)  # so that all of it can be ended
-        with open(LOG, encoding="utf-8", errors="replace") as lines:
-            while True:
-                try:
-                    status = process.wait(timeout=0.5)
-                except subprocess.TimeoutExpired:
-                    status = None
-                except KeyboardInterrupt:
-                    os.killpg(process.pid, signal.SIGTERM)
-                    process.wait()
-                    raise
-                progress.read(lines.read())
-                if status is not None:
-                    break
-                progress.sign()
+        while process.poll() is None:
+            if stopped:
+                os.killpg(process.pid, signal.SIGTERM)
+                process.wait()
+                raise KeyboardInterrupt
+            with contextlib.suppress(subprocess.TimeoutExpired):
+                process.wait(timeout=0.5)
+            progress.read(lines.read())
+            progress.sign()
+        progress.read(lines.read())
+    if stopped:
+        raise KeyboardInterrupt
     progress.end()
-    if status != 0:
-        raise Problems(f"rt staticlib viskorrel failed with status {status}; its lines are in {LOG}", *progress.failures)
+    if process.returncode != 0:
+        raise Problems(f"rt staticlib viskorrel failed with status {process.returncode}; its lines are in {LOG}", *progress.failures)
+
+
+@contextlib.contextmanager
+def heard():
+    """Signs to stop are noted, not raised: one that came while rt is being started would leave it running."""
+    came, before = [], {}
+    for sign in (signal.SIGINT, signal.SIGTERM):
+        if signal.getsignal(sign) != signal.SIG_IGN:
+            before[sign] = signal.signal(sign, lambda number, _: came.append(number))
+    try:
+        yield came
+    finally:
+        for sign, handler in before.items():
+            signal.signal(sign, handler)
 
 
 class Progress:
