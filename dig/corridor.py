@@ -155,14 +155,14 @@ def empty(file, systems):
     file.executemany("INSERT INTO gpkg_spatial_ref_sys VALUES (?, ?, ?, ?, ?, ?, coalesce(?, 'undefined'))", every.values())
 
 
-def layer(file, name, kind, srid, description, columns, rows, z=1, m=0):
-    """`rows`: blob, the columns' values, the vertices."""
+def layer(file, name, kind, srid, description, columns, rows, axes=(1, 0)):
+    """`rows`: blob, the columns' values, the vertices. `axes`: whether there are z and m, as a GeoPackage file says it."""
     names = ", ".join(column for column, _ in columns)
     file.execute(f"CREATE TABLE {name} (fid INTEGER PRIMARY KEY AUTOINCREMENT NOT NULL, geom {kind}, "
                  + ", ".join(f"{column} {type}" for column, type in columns) + ")")
-    axes = list(zip(*(place for _, _, places in rows for place in places))) or [[None], [None]]
+    x, y = (list(zip(*(place for _, _, places in rows for place in places))) or [[None], [None]])[:2]
     file.execute(
         "INSERT INTO gpkg_contents (table_name, data_type, identifier, description, min_x, min_y, max_x, max_y, srs_id) "
-        "VALUES (?, 'features', ?, ?, ?, ?, ?, ?, ?)", (name, name, description, min(axes[0]), min(axes[1]), max(axes[0]), max(axes[1]), srid))
-    file.execute("INSERT INTO gpkg_geometry_columns VALUES (?, 'geom', ?, ?, ?, ?)", (name, kind, srid, z, m))
+        "VALUES (?, 'features', ?, ?, ?, ?, ?, ?, ?)", (name, name, description, min(x), min(y), max(x), max(y), srid))
+    file.execute("INSERT INTO gpkg_geometry_columns VALUES (?, 'geom', ?, ?, ?, ?)", (name, kind, srid, *axes))
     file.executemany(f"INSERT INTO {name} (geom, {names}) VALUES (?{', ?' * len(columns)})", [(blob, *values) for blob, values, _ in rows])

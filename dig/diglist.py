@@ -154,7 +154,7 @@ def of_dents(listed):
     found = []
     again = [dent for dent in listed.dents if dent.same_as]
     for dent in again:
-        dent.warnings.append(f"the same dent as {dent.same_as.name}: not counted again")
+        dent.warnings.append(f"{dent.feature.name} is {dent.same_as.name} again: not counted twice")
     if again:
         found.append(f"{len(again)} of the rows are a dent that is there already (same geometry, same group), listed and not counted: "
                      + named(f"{dent.feature.name} is {dent.same_as.name} (group {dent.feature.group})" for dent in again))
@@ -270,7 +270,7 @@ def of_pipe(dents, chainage):
                      "chainage adds up the runs by feature id, without the gaps")
     off = [dent for dent in dents if dent.off is not None and dent.off > OFF_PIPE]
     for dent in off:
-        dent.warnings.append(f"{dent.off:.1f} m from the centreline")
+        dent.warnings.append(f"{dent.feature.name} is {dent.off:.1f} m from the centreline")
     if off:
         farthest = max(off, key=lambda dent: dent.off)
         found.append(f"{len(off)} dents are more than {OFF_PIPE:g} m from the centreline, {farthest.feature.name} the farthest by {farthest.off:.1f} m")

@@ -37,7 +37,7 @@ def write(path, made):
     file = sqlite3.connect(path)
     try:
         corridor.empty(file, systems(made.systems))
-        kind, z, m = made.kind
+        kind, *axes = made.kind
         corridor.layer(file, LINES, "LINESTRING", srid, IDENTIFIER, [("dent_group", "TEXT"), ("chainage", "REAL"), ("width", "REAL"), ("dents", "INTEGER"),
                                                                      ("new_dents", "INTEGER"), ("warnings", "TEXT")],
                        [(blob(srid, line([dig.start, dig.end])), [dig.name, dig.chainage, dig.width, dig.count, dig.new, "; ".join(dig.warnings)],
@@ -48,7 +48,7 @@ def write(path, made):
             [(blob(srid, dent.feature.blob), [
                 dent.feature.name, dent.feature.id, dent.feature.group, dent.chainage, dent.state, dent.nearest.name if dent.nearest else None,
                 dent.distance, dent.same_as.name if dent.same_as else None, "; ".join(dent.warnings)], dent.feature.vertices)
-             for dent in listed.dents], z, m)
+             for dent in listed.dents], axes)
         stamp(file, listed)
         file.commit()
     finally:

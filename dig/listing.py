@@ -56,7 +56,8 @@ def text(listed, tolerance):
     distances = even([digits(dent.distance, tolerance, dent.state) if dent.nearest else "-" for dent in listed.dents])
     table = [[dent_name(dent), dent.feature.group, way(dent.chainage), nearest_name(dent) or "-", distance, state(dent)]
              for dent, distance in zip(listed.dents, distances)]
-    heads, sides = ["dent", "group", "chainage m", "nearest struck-off", "distance m", "state"], "><>>><"
+    labelled = any(dent.feature.label for dent in listed.dents)
+    heads, sides = ["dent", "group", "chainage m", "nearest struck-off", "distance m", "state"], "<<><><" if labelled else "><>>><"
     lines += aligned(*without_chainage(listed, heads, sides, table, 2))
     lines += ["", f"DIGS (groups with a new dent; width: {WIDTH})"]
     table = [[dig.name, way(dig.chainage), dig.count, dig.new, f"{dig.width:.3f}"] + [f"{number:.3f}" for number in dig.start + dig.end]

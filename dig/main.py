@@ -64,7 +64,8 @@ def parser():
     for form, use in FORMS.items():
         options.add_argument(f"--{form}", metavar="FILE", help=use)
     options.add_argument("--no-box-test", action="store_true", help=argparse.SUPPRESS)  # measures every pair; the list is the same
-    options.add_argument("--library", metavar="PATH", help=f"{NAME}, or the folder that has it; default: {VARIABLE}, else the {'installed one' if ready.INSTALLED else 'one of the repository'}")
+    usual = "installed one" if ready.INSTALLED else "one of the repository"
+    options.add_argument("--library", metavar="PATH", help=f"{NAME}, or the folder that has it; default: {VARIABLE}, else the {usual}")
     options.add_argument("--version", action="version", version=f"viskorrel {viskorrel.__version__}")
     return options
 

@@ -241,6 +241,22 @@ def opening(t):
         file.write(content(t.whole)[:-8192])
     t.refused("a file cut off", cut, "damaged")
     logged(t)
+    half_written(t)
+
+
+def half_written(t):
+    """A program that was killed while it wrote: the file is not whole, and its journal is to undo that."""
+    path = t.changed(("CREATE TABLE filler (word BLOB)",))
+    writer = subprocess.Popen([sys.executable, "-c", "import sqlite3, sys; f = sqlite3.connect(sys.argv[1]); f.execute('PRAGMA cache_size = 2'); "
+                               "f.execute('DELETE FROM dents'); f.executemany('INSERT INTO filler VALUES (zeroblob(3000))', [()] * 200); "
+                               "print(flush=True); sys.stdin.read()", path], stdin=subprocess.PIPE, stdout=subprocess.PIPE)
+    writer.stdout.readline()
+    writer.kill()
+    writer.communicate()
+    before = content(path), content(path + "-journal")
+    done = run(path)
+    t.check("a file that was half written says what to do", done.returncode == 1 and "-journal is to undo it" in done.stderr and done.stdout == ""
+            and (content(path), content(path + "-journal")) == before, told(done))
 
 
 def logged(t):

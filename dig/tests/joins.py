@@ -1,6 +1,7 @@
 """Copies joined: what comes in, what stays, what is refused; the joined file by SQLite and by GDAL."""
 import json
 import os
+import re
 import sqlite3
 import struct
 import sys
@@ -186,7 +187,7 @@ def others(t):
     t.check("a row that points at a deleted one", done.returncode == 1 and "points at none" in done.stderr, told(done))
     labelled = t.changed(("ALTER TABLE dents ADD COLUMN crew TEXT",), ("UPDATE dents SET crew = 'K' || (100 + fid)",), ("UPDATE dents SET crew = NULL WHERE fid = 3",))
     done = run(labelled, "--label", "crew", "--csv", labelled + ".csv")
-    t.check("--label names dents by what the crew wrote", done.returncode == 0 and "K102" in done.stdout and "\n   3  A" in done.stdout, told(done))
+    t.check("--label names dents by what the crew wrote", done.returncode == 0 and "K102" in done.stdout and re.search(r"^3 +A ", done.stdout, re.MULTILINE), told(done))
     t.check("--label: the CSV has both", [(row["dent"], row["id"]) for row in rows(labelled + ".csv")][:2] == [("K101", "1"), ("K102", "2")])
     t.refused("--label: no such column", labelled, "no column nick for the label", options=["--label", "nick"])
     done = run(t.changed(("UPDATE dents SET crew = 'K1'",), source=labelled), "--label", "crew")
