@@ -23,8 +23,9 @@
  *
  * REFUSALS
  *
- * A refused call changes nothing that was lent. `number` says why it was refused; `side` says what it speaks of: 1 for a or the only
- * blob, 2 for b, 0 for neither.
+ * A refused call changes nothing that was lent. (What is proved of floats is proved up to the payload and sign of a NaN: of a NaN that a
+ * workspace holds, "unchanged" says that it is a NaN. That its bits stay too is what the comparison with the original tests.) `number`
+ * says why it was refused; `side` says what it speaks of: 1 for a or the only blob, 2 for b, 0 for neither.
  *
  *    1  d is below 0
  *    2  the fraction is not within 0..1, or NaN

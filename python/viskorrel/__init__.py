@@ -12,12 +12,12 @@ from ._library import LibraryMissing, load
 from ._nearest import Nearest, nearest
 from ._operations import (
     NoSurface, closest_point, dfully_within, distance, dwithin, intersects, library_version, line_interpolate_point, longest_line,
-    max_distance, patch, read, refusal, shortest_line, sizes)
+    max_distance, patch, patches, read, refusal, shortest_line, sizes)
 from ._refusal import Refusal
 
 __version__ = "0.2.0"
 
 __all__ = [
     "Blobs", "LibraryMissing", "Nearest", "NoSurface", "Refusal", "batch", "closest_point", "dfully_within", "distance", "dwithin", "intersects",
-    "library_version", "line_interpolate_point", "load", "longest_line", "max_distance", "nearest", "patch", "read", "refusal", "shortest_line",
-    "sizes", "srid", "wkb"]
+    "library_version", "line_interpolate_point", "load", "longest_line", "max_distance", "nearest", "patch", "patches", "read", "refusal",
+    "shortest_line", "sizes", "srid", "wkb"]

@@ -1,6 +1,5 @@
 """The operations on one or two geometries."""
 import ctypes
-import struct
 import threading
 
 from ._geometry import blob
@@ -8,7 +7,6 @@ from ._library import ANSWERED, LINE_BYTES, NO_SURFACE, POINT_BYTES, REFUSED, li
 from ._refusal import Refusal
 
 TOO_SHORT = 15  # the refusal of a workspace
-POINT = struct.pack("<BI3d", 1, 1001, 0, 0, 0)  # a geometry to measure against where any will do
 
 
 class Memory(threading.local):
@@ -109,17 +107,35 @@ class NoSurface(ValueError):
     """The geometry is no polyhedral surface, TIN or triangle, or what stands before its content is at fault."""
 
 
+def of_surface(name, geometry, *numbers):
+    """The reply to a question about a surface."""
+    pair = getattr(library(), name)(geometry, len(geometry), *numbers)
+    if pair.outcome == REFUSED:
+        raise Refusal(pair.number, pair.side, geometry)
+    if pair.outcome == NO_SURFACE:
+        raise NoSurface("the geometry is no surface")
+    return pair
+
+
 def patch(surface, n):
     """Patch n of a surface, counted from 0, as bare WKB; None where there is no patch n."""
     if not 0 <= n < 2**64:
         raise ValueError("n is not within 0..2^64-1")
     geometry = blob(surface)
-    pair = library().viskorrel_patch(geometry, len(geometry), n)
-    if pair.outcome == REFUSED:
-        raise Refusal(pair.number, pair.side, geometry)
-    if pair.outcome == NO_SURFACE:
-        raise NoSurface("the geometry is no surface")
+    pair = of_surface("viskorrel_patch", geometry, n)
     return geometry[pair.first:pair.second] if pair.outcome == ANSWERED else None
+
+
+def patches(surface):
+    """All patches of a surface in order, as bare WKB; each is scanned twice, however many there are."""
+    geometry = blob(surface)
+    listed = of_surface("viskorrel_patches", geometry)
+    found, at = [], listed.first
+    for left in range(listed.second, 0, -1):
+        pair = of_surface("viskorrel_next_patch", geometry, at, left)
+        found.append(geometry[pair.first:pair.second])
+        at = pair.second
+    return found
 
 
 def refusal(geometry):
@@ -139,10 +155,13 @@ def read(geometry):
     kind is 1 for a point, 2 for a line, 3 for a polygon's ring, 17 for a triangle's; a vertex is (x, y, z).
     """
     geometry = blob(geometry)
-    ask("viskorrel_3d_max_distance", (geometry, POINT))  # reads it into the first workspace
+    refused = refusal(geometry)  # a geometry without Z could be read, with heights of 0 that nobody measured
+    if refused is not None:
+        raise refused
+    filled = ask("viskorrel_read", (geometry,))
     floats, table = MEMORY.sides[0]
     runs, at = [], 0
-    for place in range(0, sizes(geometry)[1], 2):
+    for place in range(0, filled.second, 2):
         kind, count = table[place:place + 2]
         ordinates = floats[at:at + 3 * count]
         runs.append((kind, list(zip(ordinates[0::3], ordinates[1::3], ordinates[2::3]))))

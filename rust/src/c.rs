@@ -87,15 +87,10 @@ pub fn sizes(blob: &[u8]) -> Pair {
     unsafe { sys::viskorrel_sizes(blob.as_ptr(), blob.len()) }
 }
 
-extern "C" {
-    fn viskorrel_read(blob: *const u8, length: usize, floats: *mut f64, floats_length: usize, table: *mut u32, table_length: usize)
-        -> Pair;
-}
-
 pub fn read(blob: &[u8], workspace: &mut Workspace) -> Pair {
     let Workspace { floats, table } = workspace;
     // SAFETY: every pointer and length are those of one live slice; see the head of this module.
-    unsafe { viskorrel_read(blob.as_ptr(), blob.len(), floats.as_mut_ptr(), floats.len(), table.as_mut_ptr(), table.len()) }
+    unsafe { sys::viskorrel_read(blob.as_ptr(), blob.len(), floats.as_mut_ptr(), floats.len(), table.as_mut_ptr(), table.len()) }
 }
 
 pub fn patch(blob: &[u8], n: u64) -> Pair {

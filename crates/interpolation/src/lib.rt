@@ -242,7 +242,8 @@ fn search_line(from: Search, target: f64, floats: &[f64], first: usize, count: u
 fn search_all(target: f64, floats: &[f64], table: &[u32]) -> Search
     requires { ⌜ Laid (now table) (now floats) ⌝ }
     ensures { λ r. ⌜ r
-        ≡ foldl (searching target) notSearched (segmentsOf (storedRuns (now (table .entry)) (now (floats .entry)))) ⌝ }
+        ≡ foldl (searching target) notSearched
+        (segmentsOf (storedRuns (now (table .entry)) (now (floats .entry)))) ⌝ }
 {
     let runs = parts::run_count(table);
     let zero = Point {

@@ -10,7 +10,8 @@ ghost use mathlib.Core.Path.{_≡_};
 ghost use Rattle.interpolation.specs.Operation.{reportOf};
 ghost use Rattle.outcomes.specs.Answers.{answerReport, decisionReport, writtenReport};
 ghost use Rattle.surface.specs.Patches.{patchValue};
-ghost use Rattle.replies.specs.Replies.{replyNothing, replyAnswered, replyRefused, replyOf, pairOf, pairRefused, patchReply};
+ghost use Rattle.replies.specs.Replies.{replyNothing, replyAnswered, replyRefused, replyOf};
+ghost use Rattle.replies.specs.Replies.{pairOf, pairRefused, patchReply};
 
 // What an operation returns: a case, the number and side of a refusal, a number.
 #[repr(C)]

@@ -7,7 +7,8 @@ ghost use mathlib.Core.Path.{_≡_};
 ghost use mathlib.Core.List.{[], _∷_};
 ghost use Prim.Native.Nat.{ℕ, _+_, _-_};
 ghost use Rattle.coords.specs.Walk.{headerAt, times};
-ghost use Rattle.surface.specs.Patches.{patchAt, patchesFrom, surfaceKind, patchValue, refusing, part, patchIn, patchOf, bytesOf, listIn, listOf, nextOf};
+ghost use Rattle.surface.specs.Patches.{patchAt, patchesFrom, surfaceKind, patchValue, refusing, part};
+ghost use Rattle.surface.specs.Patches.{patchIn, patchOf, bytesOf, listIn, listOf, nextOf};
 ghost use Rattle.surface.specs.Cursors.{nextBy, patchBy, bytesBy, StandsBefore};
 ghost use Rattle.surface.specs.Inner.{endOf, countFrom};
 ghost use Rattle.surface.specs.declared.PatchRange.the-variants.{Part};
@@ -271,7 +272,8 @@ impl<'a> Cursor<'a> {
     // Where the next patch stands: patch n, before which the cursor stands.
     pub fn next(self) -> PatchRange
         ensures next { λ r. ⌜ patchValue r ≡ nextBy (self .entry) ⌝ }
-        ensures patch_n { λ r. ⌜ ((n : ℕ) → StandsBefore (self .entry) n → patchValue r ≡ patchBy (self .entry) n) ⌝ }
+        ensures patch_n { λ r. ⌜ ((n : ℕ) → StandsBefore (self .entry) n
+            → patchValue r ≡ patchBy (self .entry) n) ⌝ }
     {
         next_range(self.blob, self.at, self.left)
     }
@@ -279,15 +281,18 @@ impl<'a> Cursor<'a> {
     // The bytes of the next patch: of patch n, before which the cursor stands.
     pub fn patch(self) -> &'a [u8]
         ensures next { λ r. ⌜ now r ≡ bytesBy (self .entry) (nextBy (self .entry)) ⌝ }
-        ensures patch_n { λ r. ⌜ ((n : ℕ) → StandsBefore (self .entry) n → now r ≡ bytesBy (self .entry) (patchBy (self .entry) n)) ⌝ }
+        ensures patch_n { λ r. ⌜ ((n : ℕ) → StandsBefore (self .entry) n
+            → now r ≡ bytesBy (self .entry) (patchBy (self .entry) n)) ⌝ }
     {
         next_bytes(self.blob, self.at, self.left)
     }
 
     // The cursor after a patch that ends there: after patch n, before patch n + 1.
     pub fn after(self, end: usize) -> Cursor<'a>
-        ensures made { λ r. ⌜ (r .blob ≡ self .entry .blob) × (r .at ≡ end) × (r .left ≡ self .entry .left - 1) ⌝ }
-        ensures one_on { λ r. ⌜ ((n start : ℕ) → StandsBefore (self .entry) n → patchBy (self .entry) n ≡ part start end → StandsBefore r (n + 1)) ⌝ }
+        ensures made { λ r. ⌜ (r .blob ≡ self .entry .blob) × (r .at ≡ end)
+            × (r .left ≡ self .entry .left - 1) ⌝ }
+        ensures one_on { λ r. ⌜ ((n start : ℕ) → StandsBefore (self .entry) n
+            → patchBy (self .entry) n ≡ part start end → StandsBefore r (n + 1)) ⌝ }
     {
         let left = one_less(self.left);
         Cursor {

@@ -170,8 +170,9 @@ pub fn st_3d_closest_point(
     table2: &mut [u32],
     output: &mut [u8],
 ) -> Written
-    ensures whole_outcome { λ r. ⌜ outcome (writtenReport r) (left floats1 table1 floats2 table2) (now (output .exit))
-        ≡ closestPoint (now (a .entry)) (now (b .entry)) (lent floats1 table1 floats2 table2) (now (output .entry)) ⌝ }
+    ensures whole_outcome { λ r. ⌜ outcome (writtenReport r) (left floats1 table1 floats2 table2)
+        (now (output .exit)) ≡ closestPoint (now (a .entry)) (now (b .entry))
+        (lent floats1 table1 floats2 table2) (now (output .entry)) ⌝ }
 {
     match operands::check(
         a,
@@ -210,8 +211,9 @@ pub fn st_3d_shortest_line(
     table2: &mut [u32],
     output: &mut [u8],
 ) -> Written
-    ensures whole_outcome { λ r. ⌜ outcome (writtenReport r) (left floats1 table1 floats2 table2) (now (output .exit))
-        ≡ shortestLine (now (a .entry)) (now (b .entry)) (lent floats1 table1 floats2 table2) (now (output .entry)) ⌝ }
+    ensures whole_outcome { λ r. ⌜ outcome (writtenReport r) (left floats1 table1 floats2 table2)
+        (now (output .exit)) ≡ shortestLine (now (a .entry)) (now (b .entry))
+        (lent floats1 table1 floats2 table2) (now (output .entry)) ⌝ }
     ensures shortest_of_points { λ r. ⌜ ShortestOfPoints (answering nothing) (answering blob)
         (now (a .entry)) (now (b .entry)) (lent floats1 table1 floats2 table2) (now (output .entry))
         (writtenReport r) (now (output .exit)) ⌝ }

@@ -114,8 +114,9 @@ pub fn st_3d_longest_line(
     table2: &mut [u32],
     output: &mut [u8],
 ) -> Written
-    ensures whole_outcome { λ r. ⌜ outcome (writtenReport r) (left floats1 table1 floats2 table2) (now (output .exit))
-        ≡ longestLine (now (a .entry)) (now (b .entry)) (lent floats1 table1 floats2 table2) (now (output .entry)) ⌝ }
+    ensures whole_outcome { λ r. ⌜ outcome (writtenReport r) (left floats1 table1 floats2 table2)
+        (now (output .exit)) ≡ longestLine (now (a .entry)) (now (b .entry))
+        (lent floats1 table1 floats2 table2) (now (output .entry)) ⌝ }
     ensures longest_of_all { λ r. ⌜ LongestOfAll (answering nothing) (answering blob)
         (now (a .entry)) (now (b .entry)) (lent floats1 table1 floats2 table2) (now (output .entry))
         (writtenReport r) (now (output .exit)) ⌝ }

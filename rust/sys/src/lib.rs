@@ -60,6 +60,14 @@ on_two_blobs! {
 
 extern "C" {
     pub fn viskorrel_sizes(blob: *const u8, length: usize) -> Pair;
+    pub fn viskorrel_read(
+        blob: *const u8,
+        length: usize,
+        floats: *mut f64,
+        floats_length: usize,
+        table: *mut u32,
+        table_length: usize,
+    ) -> Pair;
     pub fn viskorrel_patch(blob: *const u8, length: usize, n: u64) -> Pair;
     pub fn viskorrel_patches(blob: *const u8, length: usize) -> Pair;
     pub fn viskorrel_next_patch(blob: *const u8, length: usize, at: usize, left: usize) -> Pair;
