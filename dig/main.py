@@ -11,6 +11,7 @@ import viskorrel
 from dig import diglist, listing, ready, stamp
 from dig.chainage import Chainage
 from dig.geopackage import GeoPackage
+from dig.opening import MAGIC
 from dig.outputs import Outputs
 from dig.problems import Problems
 from viskorrel._library import NAME, VARIABLE
@@ -107,12 +108,16 @@ def command(words):
         if end.code:
             outdated(words)
         raise
-    if asked.file == "demo":
-        demo(asked)
-    if asked.gpkg:
-        from dig import layers
-        layers.ours_or_none(asked.gpkg)
-    with Outputs([path for path in (getattr(asked, form) for form in FORMS) if path], [asked.file]) as outputs:
+    demo = asked.file == "demo"
+    if demo:
+        demo_paths(asked)
+    outputs = Outputs([path for path in (getattr(asked, form) for form in FORMS) if path], [asked.file])
+    for path in list(outputs.paths):
+        if is_database(path) and not (path == asked.gpkg and layers_are_ours(path)):
+            outputs.leave(path, "is there and is an SQLite file, no dig list of viskorrel")
+    with outputs:
+        if demo:
+            make_demo(asked)
         package = GeoPackage(asked.file)
         try:
             listed = make(asked, package)
@@ -127,29 +132,48 @@ def command(words):
         print(f"Written: {path}", file=sys.stderr)
 
 
+def is_database(path):
+    """Whether there is an SQLite file: somebody's data, unless it is a list of ours."""
+    try:
+        with open(path, "rb") as file:
+            return file.read(len(MAGIC)) == MAGIC
+    except OSError:
+        return False
+
+
+def layers_are_ours(path):
+    from dig import layers
+    return layers.is_ours(path)
+
+
 def outdated(words):
     """A command line at fault: what an earlier run wrote to its outputs is not left looking current."""
     scan = argparse.ArgumentParser(add_help=False, allow_abbrev=False)
     for form in FORMS:
         scan.add_argument(f"--{form}", nargs="?")
-    paths = [path for path in vars(scan.parse_known_args(words)[0]).values() if path]
-    outputs = Outputs(paths, [word for word in words if word not in paths and os.path.isfile(word)])
+    found = vars(scan.parse_known_args(words)[0])
+    paths = [path for form, path in found.items() if path and (not is_database(path) or form == "gpkg" and layers_are_ours(path))]
+    outputs = Outputs(paths, [word for word in words if word not in found.values() and os.path.isfile(word)])
     outputs.set_aside()
     for line in outputs.told():
         print(line, file=sys.stderr)
 
 
-def demo(asked):
-    from dig import build, corridor
+def demo_paths(asked):
+    from dig import build
     folder = asked.folder or build.DEMO
-    os.makedirs(folder, exist_ok=True)
     asked.file = os.path.join(folder, "corridor.gpkg")
+    for form in FORMS:
+        setattr(asked, form, getattr(asked, form) or os.path.join(folder, f"dig.{form}"))
+
+
+def make_demo(asked):
+    from dig import corridor
+    os.makedirs(os.path.dirname(asked.file) or ".", exist_ok=True)
     if os.path.exists(asked.file) and not ours(asked.file, corridor.IDENTIFIER):
         raise Problems(f"{asked.file} is there and is not the demo's: it is left alone")
     ready.library(asked.library)
     corridor.make(asked.file)
-    for form in FORMS:
-        setattr(asked, form, getattr(asked, form) or os.path.join(folder, f"dig.{form}"))
 
 
 def ours(path, identifier):
