@@ -11,7 +11,6 @@ import viskorrel
 from dig import diglist, listing, ready, stamp
 from dig.chainage import Chainage
 from dig.geopackage import GeoPackage
-from dig.opening import MAGIC
 from dig.outputs import Outputs
 from dig.problems import Problems
 from viskorrel._library import NAME, VARIABLE
@@ -111,11 +110,8 @@ def command(words):
     demo = asked.file == "demo"
     if demo:
         demo_paths(asked)
-    outputs = Outputs([path for path in (getattr(asked, form) for form in FORMS) if path], [asked.file])
-    for path in list(outputs.paths):
-        if is_database(path) and not (path == asked.gpkg and layers_are_ours(path)):
-            outputs.leave(path, "is there and is an SQLite file, no dig list of viskorrel")
-    with outputs:
+    paths = [path for path in (getattr(asked, form) for form in FORMS) if path]
+    with Outputs(paths, [asked.file], lambda path: path == asked.gpkg and is_list(path)) as outputs:
         if demo:
             make_demo(asked)
         package = GeoPackage(asked.file)
@@ -132,16 +128,7 @@ def command(words):
         print(f"Written: {path}", file=sys.stderr)
 
 
-def is_database(path):
-    """Whether there is an SQLite file: somebody's data, unless it is a list of ours."""
-    try:
-        with open(path, "rb") as file:
-            return file.read(len(MAGIC)) == MAGIC
-    except OSError:
-        return False
-
-
-def layers_are_ours(path):
+def is_list(path):
     from dig import layers
     return layers.is_ours(path)
 
@@ -152,8 +139,8 @@ def outdated(words):
     for form in FORMS:
         scan.add_argument(f"--{form}", nargs="?")
     found = vars(scan.parse_known_args(words)[0])
-    paths = [path for form, path in found.items() if path and (not is_database(path) or form == "gpkg" and layers_are_ours(path))]
-    outputs = Outputs(paths, [word for word in words if word not in found.values() and os.path.isfile(word)])
+    outputs = Outputs([path for path in found.values() if path], [word for word in words if word not in found.values() and os.path.isfile(word)],
+                      lambda path: path == found["gpkg"] and is_list(path))
     outputs.set_aside()
     for line in outputs.told():
         print(line, file=sys.stderr)

@@ -1,7 +1,7 @@
 """The files that a run writes: all of them or none, and none of an earlier run left where it would look current."""
 import os
 
-from dig.opening import ASIDE
+from dig.opening import ASIDE, MAGIC
 from dig.problems import Problems
 
 EARLIER = ".earlier"
@@ -10,7 +10,8 @@ EARLIER = ".earlier"
 class Outputs:
     """In a `with`: `add` each file as it is ready, `publish` all at the end. Any failure undoes all, and tells so in its `told`."""
 
-    def __init__(self, paths, inputs):
+    def __init__(self, paths, inputs, ours=lambda path: False):
+        """`ours`: whether an SQLite file may be replaced. It is somebody's data, unless it is a list."""
         self.paths, self.set_aside_paths, self.ready, self.new, self.faults = [], [], [], [], []
         foreign = [path + end for path in inputs for end in ("",) + ASIDE]
         taken = []
@@ -18,14 +19,11 @@ class Outputs:
             clash = next((other for other in foreign + taken if same(path, other)), None)
             if clash is not None:
                 self.faults.append(f"{path}: an output must be a file of its own, not {clash}")
+            elif is_database(path) and not ours(path):
+                self.faults.append(f"{path}: is there and is an SQLite file, no dig list of viskorrel: it is left alone")
             else:
                 self.paths.append(path)
                 taken += [path, path + EARLIER]
-
-    def leave(self, path, reason):
-        """A file that is not ours to replace: it stays, and the run fails."""
-        self.paths.remove(path)
-        self.faults.append(f"{path}: {reason}: it is left alone")
 
     def __enter__(self):
         """Outputs of an earlier run are set aside first, whatever fails then."""
@@ -49,7 +47,8 @@ class Outputs:
         """Outputs of an earlier run get another name before anything else can fail."""
         for path in list(self.paths):
             if os.path.lexists(path) and not os.path.isfile(path):
-                self.leave(path, "is there and is no regular file")
+                self.paths.remove(path)
+                self.faults.append(f"{path}: is there and is no regular file: it is left alone")
             elif os.path.lexists(path):
                 os.replace(path, path + EARLIER)
                 self.set_aside_paths.append(path)
@@ -102,5 +101,13 @@ def same(path, other):
         return True
     try:
         return os.path.samefile(path, other)
+    except OSError:
+        return False
+
+
+def is_database(path):
+    try:
+        with open(path, "rb") as file:
+            return file.read(len(MAGIC)) == MAGIC
     except OSError:
         return False
