@@ -124,10 +124,8 @@ def outputs(t):
     before = content(path)
     done = run(path, "--svg", path, "--csv", csv)
     t.check("an output over the input: no earlier list stays either", done.returncode == 1 and content(path) == before and not os.path.exists(csv), told(done))
-    os.mkdir(csv)
-    done = run(path, "--csv", csv)
-    t.check("an output that is a directory", done.returncode == 1 and "no regular file" in done.stderr and os.path.isdir(csv), told(done))
-    os.rmdir(csv)
+    done = run(path, "--csv", t.folder)
+    t.check("an output that is a directory", done.returncode == 1 and "no regular file" in done.stderr and os.path.isdir(t.folder), told(done))
     left = [name for name in os.listdir(folder) if re.search(r"\.\d+$", name)]
     t.check("no temporary stays", not left, str(left))
 
