@@ -5,25 +5,22 @@ import struct
 
 from dig import corridor
 from dig.measure import line
-from dig.problems import Problems
+from dig.opening import quoted
 
 IDENTIFIER = "viskorrel dig list"
 LINES, DENTS, STAMP = "dig_lines", "dig_dents", "dig_stamp"
 
 
-def ours_or_none(path):
-    """A file that is there is only replaced where it is such a list."""
-    if path and os.path.exists(path):
+def is_ours(path):
+    """Whether a file is such a list: others are never replaced."""
+    try:
+        file = sqlite3.connect(f"file:{quoted(os.path.abspath(path))}?mode=ro", uri=True)
         try:
-            file = sqlite3.connect(path)
-            try:
-                ours = file.execute("SELECT count(*) FROM gpkg_contents WHERE table_name = ? AND description = ?", (STAMP, IDENTIFIER)).fetchone()[0]
-            finally:
-                file.close()
-        except sqlite3.Error:
-            ours = 0
-        if not ours:
-            raise Problems(f"{path} is there and is no dig list of viskorrel: it is left alone")
+            return file.execute("SELECT count(*) FROM gpkg_contents WHERE table_name = ? AND description = ?", (STAMP, IDENTIFIER)).fetchone()[0] > 0
+        finally:
+            file.close()
+    except sqlite3.Error:
+        return False
 
 
 def blob(srid, content):

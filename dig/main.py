@@ -107,12 +107,13 @@ def command(words):
         if end.code:
             outdated(words)
         raise
-    if asked.file == "demo":
-        demo(asked)
-    if asked.gpkg:
-        from dig import layers
-        layers.ours_or_none(asked.gpkg)
-    with Outputs([path for path in (getattr(asked, form) for form in FORMS) if path], [asked.file]) as outputs:
+    demo = asked.file == "demo"
+    if demo:
+        demo_paths(asked)
+    paths = [path for path in (getattr(asked, form) for form in FORMS) if path]
+    with Outputs(paths, [asked.file], lambda path: path == asked.gpkg and is_list(path)) as outputs:
+        if demo:
+            make_demo(asked)
         package = GeoPackage(asked.file)
         try:
             listed = make(asked, package)
@@ -127,29 +128,39 @@ def command(words):
         print(f"Written: {path}", file=sys.stderr)
 
 
+def is_list(path):
+    from dig import layers
+    return layers.is_ours(path)
+
+
 def outdated(words):
     """A command line at fault: what an earlier run wrote to its outputs is not left looking current."""
     scan = argparse.ArgumentParser(add_help=False, allow_abbrev=False)
     for form in FORMS:
         scan.add_argument(f"--{form}", nargs="?")
-    paths = [path for path in vars(scan.parse_known_args(words)[0]).values() if path]
-    outputs = Outputs(paths, [word for word in words if word not in paths and os.path.isfile(word)])
+    found = vars(scan.parse_known_args(words)[0])
+    outputs = Outputs([path for path in found.values() if path], [word for word in words if word not in found.values() and os.path.isfile(word)],
+                      lambda path: path == found["gpkg"] and is_list(path))
     outputs.set_aside()
     for line in outputs.told():
         print(line, file=sys.stderr)
 
 
-def demo(asked):
-    from dig import build, corridor
+def demo_paths(asked):
+    from dig import build
     folder = asked.folder or build.DEMO
-    os.makedirs(folder, exist_ok=True)
     asked.file = os.path.join(folder, "corridor.gpkg")
+    for form in FORMS:
+        setattr(asked, form, getattr(asked, form) or os.path.join(folder, f"dig.{form}"))
+
+
+def make_demo(asked):
+    from dig import corridor
+    os.makedirs(os.path.dirname(asked.file) or ".", exist_ok=True)
     if os.path.exists(asked.file) and not ours(asked.file, corridor.IDENTIFIER):
         raise Problems(f"{asked.file} is there and is not the demo's: it is left alone")
     ready.library(asked.library)
     corridor.make(asked.file)
-    for form in FORMS:
-        setattr(asked, form, getattr(asked, form) or os.path.join(folder, f"dig.{form}"))
 
 
 def ours(path, identifier):

@@ -1,8 +1,7 @@
 """The files that a run writes: all of them or none, and none of an earlier run left where it would look current."""
 import os
-import stat
 
-from dig.opening import ASIDE
+from dig.opening import ASIDE, MAGIC
 from dig.problems import Problems
 
 EARLIER = ".earlier"
@@ -11,18 +10,27 @@ EARLIER = ".earlier"
 class Outputs:
     """In a `with`: `add` each file as it is ready, `publish` all at the end. Any failure undoes all, and tells so in its `told`."""
 
-    def __init__(self, paths, inputs):
-        self.paths, self.set_aside_paths, self.ready, self.new = list(paths), [], [], []
-        taken = [(path + end, f"{path}{end}") for path in inputs for end in ("",) + ASIDE]
-        for path in self.paths:
-            for other, name in taken:
-                if same(path, other):
-                    raise Problems(f"{path}: an output must be a file of its own, not {name}")
-            taken += [(path + end, path + end) for end in ("", EARLIER)]
+    def __init__(self, paths, inputs, ours=lambda path: False):
+        """`ours`: whether an SQLite file may be replaced. It is somebody's data, unless it is a list."""
+        self.paths, self.set_aside_paths, self.ready, self.new, self.faults = [], [], [], [], []
+        foreign = [path + end for path in inputs for end in ("",) + ASIDE]
+        taken = []
+        for path in paths:
+            clash = next((other for other in foreign + taken if same(path, other)), None)
+            if clash is not None:
+                self.faults.append(f"{path}: an output must be a file of its own, not {clash}")
+            elif is_database(path) and not ours(path):
+                self.faults.append(f"{path}: is there and is an SQLite file, no dig list of viskorrel: it is left alone")
+            else:
+                self.paths.append(path)
+                taken += [path, path + EARLIER]
 
     def __enter__(self):
+        """Outputs of an earlier run are set aside first, whatever fails then."""
         try:
             self.set_aside()
+            if self.faults:
+                raise Problems(*self.faults)
         except BaseException as fault:
             fault.told = self.told()
             raise
@@ -36,15 +44,14 @@ class Outputs:
             fault.told = self.told()
 
     def set_aside(self):
-        """Outputs of an earlier run get another name before anything can fail."""
-        for path in self.paths:
-            try:
-                if not stat.S_ISREG(os.lstat(path).st_mode) and not os.path.isfile(path):
-                    raise Problems(f"{path}: is there and is no regular file: it is left alone")
-            except FileNotFoundError:
-                continue
-            os.replace(path, path + EARLIER)
-            self.set_aside_paths.append(path)
+        """Outputs of an earlier run get another name before anything else can fail."""
+        for path in list(self.paths):
+            if os.path.lexists(path) and not os.path.isfile(path):
+                self.paths.remove(path)
+                self.faults.append(f"{path}: is there and is no regular file: it is left alone")
+            elif os.path.lexists(path):
+                os.replace(path, path + EARLIER)
+                self.set_aside_paths.append(path)
 
     def add(self, path, make):
         """`make` writes the file under a name that it is given."""
@@ -94,5 +101,13 @@ def same(path, other):
         return True
     try:
         return os.path.samefile(path, other)
+    except OSError:
+        return False
+
+
+def is_database(path):
+    try:
+        with open(path, "rb") as file:
+            return file.read(len(MAGIC)) == MAGIC
     except OSError:
         return False

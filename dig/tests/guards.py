@@ -110,11 +110,22 @@ def outputs(t):
     done = run(path, "--csv", csv)
     t.check("a good run after it", done.returncode == 0 and os.path.exists(csv) and not os.path.exists(csv + ".earlier"), told(done))
     same = run(path, "--csv", csv, "--svg", csv)
-    t.check("two outputs at one path", same.returncode == 1 and os.path.exists(csv), told(same))
+    t.check("two outputs at one path", same.returncode == 1 and "a file of its own" in same.stderr and not os.path.exists(csv), told(same))
     stranger = t.changed()
     before = content(stranger)
-    done = run(path, "--gpkg", stranger)
-    t.check("--gpkg never replaces another file", done.returncode == 1 and content(stranger) == before, told(done))
+    run(path, "--csv", csv)
+    done = run(path, "--gpkg", stranger, "--csv", csv)
+    t.check("--gpkg never replaces another file, and no earlier list stays beside it", done.returncode == 1 and content(stranger) == before
+            and not os.path.exists(csv) and not os.path.exists(stranger + ".earlier"), told(done))
+    for option in ("--csv", "--svg", "--html"):
+        done = run(path, option, stranger)
+        t.check(f"{option} never replaces an SQLite file", done.returncode == 1 and content(stranger) == before and "left alone" in done.stderr, told(done))
+    run(path, "--csv", csv)
+    before = content(path)
+    done = run(path, "--svg", path, "--csv", csv)
+    t.check("an output over the input: no earlier list stays either", done.returncode == 1 and content(path) == before and not os.path.exists(csv), told(done))
+    done = run(path, "--csv", t.folder)
+    t.check("an output that is a directory", done.returncode == 1 and "no regular file" in done.stderr and os.path.isdir(t.folder), told(done))
     left = [name for name in os.listdir(folder) if re.search(r"\.\d+$", name)]
     t.check("no temporary stays", not left, str(left))
 

@@ -201,6 +201,8 @@ def failures(t):
     before = content(there)
     done = run("join", there, "--base", base, copy)
     t.check("never over a file", done.returncode == 1 and content(there) == before and "is there" in done.stderr, told(done))
+    done = run("join", t.path(), "--base", base, copy, "--csv", there)
+    t.check("nor over one by the report", done.returncode == 1 and content(there) == before and "left alone" in done.stderr, told(done))
     for name, words, inputs in [("the base twice", "given twice", [base]), ("no such file", "no such file", [copy + ".none"]),
                                 ("a directory", "is a directory", [t.folder]), ("a copy that is damaged", "damaged", [cut(t, copy)])]:
         out = t.path()
