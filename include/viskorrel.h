@@ -2,7 +2,7 @@
  * Viskorrel: 3D measures between GeoPackage or WKB blobs.
  *
  * Each function is proved to meet its contract (crates/viskorrel/src/lib.rt): for every input it ends, and its reply, the workspaces
- * and the output equal definitions (specs/ of crates/viskorrel and of the crates that it stands on). Nothing is allocated, and nothing
+ * and the output equal definitions (specs/ of crates/replies and of the crates that it stands on). Nothing is allocated, and nothing
  * is kept between calls.
  *
  * LENT MEMORY

@@ -1,4 +1,4 @@
--- Trailing bytes, envelope doubles and the empty flag change nothing: two blobs that differ in these alone are read alike. Assumes nothing.
+-- Trailing bytes, the envelope doubles' values and the empty flag change nothing in reading: a blob that can be walked and one that differs from it in these alone are read alike. Assumes nothing.
 use mathlib.Core.Path.{_≡_, refl, sym, ap, subst, _∙_}
 use mathlib.Core.Bool.{Bool, true, false, cond, not, _&&_}
 use mathlib.Core.List.{List}

@@ -1,4 +1,5 @@
--- What of a blob is ignored (document 01: "Trailing bytes, envelope doubles and the empty flag change nothing but kind 17's patch"). Definitions only.
+-- What measuring ignores of a blob that can be walked (document 01: "Trailing bytes, envelope doubles and the empty flag change nothing but kind 17's patch").
+-- Trailing are the bytes after the walk's end; patches are scanned by another layout, and end elsewhere. Definitions only.
 use Prim.Native.Nat.{ℕ, _/_, _%_}
 use mathlib.Core.Path.{_≡_}
 use mathlib.Core.Bool.{true}
@@ -25,7 +26,7 @@ pub record SameButIgnored (s t : List ℕ) : Type 0 where
   pub gp-header : isGp s ≡ true → SameGpHeader s t
   pub same-geometry : slice (geometryStart s) end s ≡ slice (geometryStart s) end t
 
--- two blobs are read alike: all that the operations take from a blob's bytes is the same
+-- two blobs are read alike: all that reading and measuring take from a blob's bytes is the same
 pub record ReadAlike (s t : List ℕ) : Type 0 where
   pub header : headerChecks s ≡ headerChecks t
   pub header-3d : headerChecks3d s ≡ headerChecks3d t

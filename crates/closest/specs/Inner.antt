@@ -17,6 +17,6 @@ unfoldable pub atNan : Option Witness → Bool
 atNan none = false
 atNan (some best) = ne (best .d) (best .d)
 
--- no candidate is strictly closer than the best
+-- the best's distance is NaN or 0: no distance is strictly less, since none is below 0
 abbrev pub Lasts : Option Witness → Type 0
 Lasts best = (atNan best ≡ true) ⊎ (atZero best ≡ true)

@@ -20,7 +20,7 @@ pub struct Best {
 
 impl Best {
     // The closer of the best and w, whose distance is the root of the sum: the first witness is taken, a later one only if strictly less.
-    // Of equal distances the first witness stays, with the lesser sum: a third sum of the same root is then not less, and its root not taken.
+    // Of equal distances the first witness stays, with the lesser sum: another witness of that sum is then not less, and its root not taken.
     pub fn closer(self, sum: f64, w: Witness) -> Best
         requires { ⌜ Sound self ⌝ }
         requires { ⌜ CanWin self sum w ⌝ }

@@ -1,4 +1,4 @@
--- How the root is searched for among bit patterns, and what the steps of the code give: for inner contracts only. Of the root itself `IsRoot` says all. Definitions only.
+-- How the root is searched for among bit patterns, by which `rootOf` is a function, and what the steps of the code give, for inner contracts. Of the root itself `IsRoot` says all. Definitions only.
 use mathlib.Core.Path.{_≡_}
 use mathlib.Core.Bool.{Bool, cond, _&&_}
 use Prim.Native.Nat.{ℕ, zero, suc, _+_, _-_, _*_, _/_, _%_, _^_, _≤_, _<_}

@@ -206,7 +206,7 @@ pub struct PlaneFoot {
     pub foot: Point,
 }
 
-// The foot of the perpendicular from p to the plane of a b c; not inside where the normal is not above 0.
+// The foot of the perpendicular from p to the plane of a b c; not inside where the normal's squared length is not above 0.
 pub fn plane_foot(p: Point, a: Point, b: Point, c: Point) -> PlaneFoot
     ensures { λ r. ⌜ (r .inside ≡ footInside p a b c (normalOf a b c)) × (r .foot ≡ footOf p a (normalOf a b c)) ⌝ }
 {

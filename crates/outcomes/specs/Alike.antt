@@ -1,4 +1,4 @@
--- Blobs that every operation measures alike: what an operation takes from a blob (document 01: "Trailing bytes, envelope doubles and the
+-- Blobs that every measuring operation answers alike: what such an operation takes from a blob (document 01: "Trailing bytes, envelope doubles and the
 -- empty flag change nothing but kind 17's patch"). Definitions only.
 use Prim.Native.Nat.{ℕ}
 use mathlib.Core.Path.{_≡_}
@@ -22,7 +22,7 @@ pub record MeasuredAlike (s t : List ℕ) : Type 0 where
   pub runs : length (runsOfBlob s) ≡ length (runsOfBlob t)
   pub points : mapRuns pointOf (runsOfBlob s) ≡ mapRuns pointOf (runsOfBlob t)
 
--- two calls answer alike: the same report, the same output
+-- two calls answer alike: the same report, the same output (workspaces hold all that is read, and may differ in what is not measured)
 pub record AnswersAlike (o p : Outcome) : Type 0 where
   pub report : o .report ≡ p .report
   pub output : o .output ≡ p .output

@@ -278,7 +278,7 @@ impl<'a> Cursor<'a> {
         next_range(self.blob, self.at, self.left)
     }
 
-    // The bytes of the next patch: of patch n, before which the cursor stands.
+    // The bytes of the next patch: of patch n, before which the cursor stands. Empty where `next` tells no part.
     pub fn patch(self) -> &'a [u8]
         ensures next { λ r. ⌜ now r ≡ bytesBy (self .entry) (nextBy (self .entry)) ⌝ }
         ensures patch_n { λ r. ⌜ ((n : ℕ) → StandsBefore (self .entry) n

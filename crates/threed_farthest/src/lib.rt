@@ -81,7 +81,7 @@ pub fn st_3d_max_distance(
     }
 }
 
-// Whether no vertex of side 1 is farther than d from one of side 2.
+// Whether the greatest distance of a vertex of side 1 from one of side 2 is at most d; no where there is none.
 pub fn st_3d_dfully_within(
     a: &[u8],
     b: &[u8],

@@ -93,7 +93,7 @@ pub extern "C" fn viskorrel_3d_dwithin(
     ))
 }
 
-// Whether no vertex of a is farther than d from one of b.
+// Whether the greatest distance of a vertex of a from one of b is at most d; no where there is none.
 #[no_mangle]
 pub extern "C" fn viskorrel_3d_dfully_within(
     a: &[u8],
