@@ -23,10 +23,6 @@ is-equal : (a b : Bool) → (a || b) ≡ true → a ≡ false → b ≡ true
 is-equal true b l m = absurd (true≢false m)
 is-equal false b l m = l
 
-is-less : (a b : Bool) → (a || b) ≡ false → a ≡ true → ⊥
-is-less true b l m = true≢false l
-is-less false b l m = true≢false (sym m)
-
 -- w with the sum s
 module _ (b : Best) (w : Witness) (s : Float) (h : Sound b) (k : CanWin b s w) where
   -- the first is taken
@@ -41,17 +37,13 @@ module _ (b : Best) (w : Witness) (s : Float) (h : Sound b) (k : CanWin b s w) w
         let q : eq (rootOf (b .sum)) (rootOf s) ≡ true = rw (h .root e, k .root) at (equal-either-way (w .d) (b .witness .d) (is-equal _ _ l m)) in
         k .root ∙ sym (equal-roots (b .sum) s (h .fitting) (k .fitting) (k .less) q) ∙ sym (h .root e)
 
-    never : le (w .d) (b .witness .d) ≡ false → lt (w .d) (b .witness .d) ≡ true → ⊥
-    unfolding le
-    never l m = is-less _ _ l m
-
-    -- the smaller of both, with a sum that its distance is the root of
-    pub smaller-kept : (t : Bool) → le (w .d) (b .witness .d) ≡ t → Keeps (record { sum = cond t s (b .sum); witness = smallerOf (b .witness) w }) (taking shorter (bestOf b) w)
+    -- where w is less, the smaller of both is w
+    pub less-kept : lt (w .d) (b .witness .d) ≡ true → Keeps (record { sum = s; witness = smallerOf (b .witness) w }) (taking shorter (bestOf b) w)
     unfolding smallerOf
-    smaller-kept t l = go t (lt (w .d) (b .witness .d)) l refl
-      where
-        go : (t u : Bool) → le (w .d) (b .witness .d) ≡ t → lt (w .d) (b .witness .d) ≡ u → Keeps (record { sum = cond t s (b .sum); witness = cond u w (b .witness) }) (taking shorter (bestOf b) w)
-        go true true l m = offered.better-taken shortest-roots b w s h (k .fitting) (k .root) e m
-        go true false l m = offered.sum-renewed shortest-roots b w s h (k .fitting) (k .root) e m (same-distance l m)
-        go false true l m = absurd (never l m)
-        go false false l m = offered.root-not-better shortest-roots b w s h (k .fitting) (k .root) e m
+    less-kept m = rw m (offered.better-taken shortest-roots b w s h (k .fitting) (k .root) e m)
+
+    -- else it is the best, with a sum that its distance is the root of
+    pub best-kept : lt (w .d) (b .witness .d) ≡ false → (t : Bool) → le (w .d) (b .witness .d) ≡ t → Keeps (record { sum = cond t s (b .sum); witness = smallerOf (b .witness) w }) (taking shorter (bestOf b) w)
+    unfolding smallerOf
+    best-kept m true l = rw m (offered.sum-renewed shortest-roots b w s h (k .fitting) (k .root) e m (same-distance l m))
+    best-kept m false l = rw m (offered.root-not-better shortest-roots b w s h (k .fitting) (k .root) e m)

@@ -30,10 +30,17 @@ impl Best {
         if first.d < 0.0 {
             return Best { sum, witness: w };
         }
+        let smaller = first.min(w);
+        if w.d < first.d {
+            return Best {
+                sum,
+                witness: smaller,
+            };
+        }
         let least = if w.d <= first.d { sum } else { self.sum };
         Best {
             sum: least,
-            witness: first.min(w),
+            witness: smaller,
         }
     }
 }
