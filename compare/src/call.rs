@@ -19,6 +19,7 @@ pub const POINT_LENGTH: usize = 37;
 pub const LINE_LENGTH: usize = 65;
 
 impl Op {
+    /// Those on two blobs stand first.
     pub const ALL: [Op; 11] = [
         Op::Distance,
         Op::MaxDistance,
@@ -32,6 +33,8 @@ impl Op {
         Op::Patch,
         Op::Sizes,
     ];
+    pub const TWO_BLOBS: &[Op] = Op::ALL.split_at(8).0;
+    pub const ONE_BLOB: &[Op] = Op::ALL.split_at(8).1;
 
     pub fn name(self) -> &'static str {
         match self {
@@ -50,7 +53,7 @@ impl Op {
     }
 
     pub fn two_blobs(self) -> bool {
-        !matches!(self, Op::Interpolate | Op::Patch | Op::Sizes)
+        Op::TWO_BLOBS.contains(&self)
     }
 
     pub fn takes_number(self) -> bool {

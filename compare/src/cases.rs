@@ -15,17 +15,6 @@ pub struct Case {
     pub ops: &'static [Op],
 }
 
-const TWO_BLOBS: &[Op] = &[
-    Op::Distance,
-    Op::MaxDistance,
-    Op::DWithin,
-    Op::DFullyWithin,
-    Op::Intersects,
-    Op::ClosestPoint,
-    Op::ShortestLine,
-    Op::LongestLine,
-];
-const ONE_BLOB: &[Op] = &[Op::Interpolate, Op::Patch, Op::Sizes];
 const READING: &[Op] = &[Op::Distance, Op::LongestLine, Op::Interpolate, Op::Patch, Op::Sizes];
 const SECOND: &[Op] = &[Op::Distance, Op::ShortestLine];
 
@@ -262,7 +251,7 @@ fn damaged(mut blob: Vec<u8>, random: &mut Random) -> Vec<u8> {
 
 fn pair(class: &'static str, a: &Geometry, b: &Geometry, random: &mut Random) -> Case {
     let (a, b) = (encode::blob(a, random), encode::blob(b, random));
-    Case { class, a, b, ops: TWO_BLOBS }
+    Case { class, a, b, ops: Op::TWO_BLOBS }
 }
 
 /// A surface, whose members need not be faces.
@@ -396,10 +385,10 @@ pub fn drawn(random: &mut Random, run: &mut dyn FnMut(Case)) {
 /// Blobs from a file, each a little-endian u32 length and its bytes: each alone and with others.
 pub fn samples(blobs: &[Vec<u8>], random: &mut Random, run: &mut dyn FnMut(Case)) {
     for a in blobs {
-        run(Case { class: "samples", a: a.clone(), b: Vec::new(), ops: ONE_BLOB });
+        run(Case { class: "samples", a: a.clone(), b: Vec::new(), ops: Op::ONE_BLOB });
         for _ in 0..6 {
             let b = blobs[random.below(blobs.len())].clone();
-            run(Case { class: "samples", a: a.clone(), b, ops: TWO_BLOBS });
+            run(Case { class: "samples", a: a.clone(), b, ops: Op::TWO_BLOBS });
         }
     }
 }

@@ -100,6 +100,11 @@ fn put_coordinates(out: &mut Vec<u8>, big: bool, dims: Dims, run: &[Ordinates]) 
     }
 }
 
+fn put_run(out: &mut Vec<u8>, big: bool, dims: Dims, run: &[Ordinates]) {
+    put_u32(out, big, run.len() as u32);
+    put_coordinates(out, big, dims, run);
+}
+
 fn put(out: &mut Vec<u8>, g: &Geometry, style: Style, top: bool, random: &mut Random) {
     let big = style.orders && random.chance(50);
     let mut dims = if style.dims { random.pick(&ALL_DIMS) } else { Dims::Xyz };
@@ -123,15 +128,11 @@ fn put(out: &mut Vec<u8>, g: &Geometry, style: Style, top: bool, random: &mut Ra
     }
     match g {
         Geometry::Point(p) => put_coordinates(out, big, dims, &[*p]),
-        Geometry::Line(run) => {
-            put_u32(out, big, run.len() as u32);
-            put_coordinates(out, big, dims, run);
-        }
+        Geometry::Line(run) => put_run(out, big, dims, run),
         Geometry::Rings(_, rings) => {
             put_u32(out, big, rings.len() as u32);
             for run in rings {
-                put_u32(out, big, run.len() as u32);
-                put_coordinates(out, big, dims, run);
+                put_run(out, big, dims, run);
             }
         }
         Geometry::Collection(_, members) => {
