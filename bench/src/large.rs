@@ -78,16 +78,17 @@ fn dents(n: usize, corner: Point, random: &mut Random) -> Geometry {
     shapes::multipoint(&(0..n).map(|_| dent()).collect::<Vec<_>>())
 }
 
+/// Two groups of dents, the second to the north-east; each drawn by `draw`.
+fn two_groups(n: usize, random: &mut Random, draw: fn(usize, Point, &mut Random) -> Geometry) -> (Geometry, Geometry) {
+    let there = moved(ORIGIN, [150.0, 150.0, 0.0]);
+    (draw(n, ORIGIN, random), draw(n, there, random))
+}
+
 /// `dents` whose first is a point of NaN, as other software writes an empty one.
 fn dents_after_empty(n: usize, corner: Point, random: &mut Random) -> Geometry {
     let Geometry::Collection(kind, mut members) = dents(n, corner, random) else { unreachable!("a multipoint") };
     members[0] = shapes::point([f64::NAN; 3]);
     Geometry::Collection(kind, members)
-}
-
-fn nan_first(n: usize, random: &mut Random) -> (Geometry, Geometry) {
-    let there = moved(ORIGIN, [150.0, 150.0, 0.0]);
-    (dents_after_empty(n, ORIGIN, random), dents_after_empty(n, there, random))
 }
 
 /// Two points as far from (0, 0, 0), though the second's sum of squares is one unit in the last place more.
@@ -118,7 +119,7 @@ fn routes(n: usize, random: &mut Random) -> (Geometry, Geometry) {
 
 struct Family {
     name: &'static str,
-    op: Op,
+    ops: &'static [Op],
     target: Option<f64>,
     /// How many pairs of each size are drawn.
     pairs: usize,
@@ -128,101 +129,30 @@ struct Family {
 }
 
 const MOST: usize = usize::MAX;
+const NEAR: &[Op] = &[Op::Distance];
+const FAR: &[Op] = &[Op::LongestLine];
+const BOTH: &[Op] = &[Op::Distance, Op::LongestLine];
 
-const FAMILIES: [Family; 12] = [
-    Family {
-        name: "corridor",
-        op: Op::LongestLine,
-        target: Some(1.0),
-        pairs: 10,
-        sizes: &[(1_000, 4, MOST), (4_000, 1, MOST), (16_000, 1, MOST)],
-        draw: routes,
-    },
-    Family {
-        name: "sphere",
-        op: Op::LongestLine,
-        target: Some(0.1),
-        pairs: 1,
-        sizes: &[(1_000, 1, MOST), (4_000, 1, 3), (16_000, 1, 2)],
-        draw: |n, random| (sphere(n, random), sphere(n, random)),
-    },
-    Family {
-        name: "TIN",
-        op: Op::Distance,
-        target: Some(1.0),
-        pairs: 1,
-        sizes: &[(250, 20, MOST), (1_000, 4, MOST), (4_000, 1, 5)],
-        draw: |n, random| surfaces(n, 30.0, -30.0, 12.0, random),
-    },
-    Family {
-        name: "TIN near",
-        op: Op::Distance,
-        target: Some(1.0),
-        pairs: 1,
-        sizes: &[(250, 4, MOST), (1_000, 1, MOST), (4_000, 1, 3)],
-        draw: |n, random| surfaces(n, 0.0, 0.0, 1.0, random),
-    },
-    Family {
-        name: "TIN far",
-        op: Op::Distance,
-        target: Some(1.0),
-        pairs: 1,
-        sizes: &[(250, 20, MOST), (1_000, 4, MOST), (4_000, 1, 5)],
-        draw: |n, random| surfaces(n, 2_000.0, 2_000.0, 12.0, random),
-    },
-    Family {
-        name: "lines",
-        op: Op::Distance,
-        target: None,
-        pairs: 1,
-        sizes: &[(1_000, 4, MOST), (4_000, 1, 5)],
-        draw: routes,
-    },
-    Family {
-        name: "multipoints",
-        op: Op::Distance,
-        target: None,
-        pairs: 1,
-        sizes: &[(2_000, 1, MOST)],
-        draw: |n, random| (dents(n, ORIGIN, random), dents(n, moved(ORIGIN, [150.0, 150.0, 0.0]), random)),
-    },
-    Family {
-        name: "multipoints",
-        op: Op::LongestLine,
-        target: None,
-        pairs: 1,
-        sizes: &[(2_000, 1, MOST)],
-        draw: |n, random| (dents(n, ORIGIN, random), dents(n, moved(ORIGIN, [150.0, 150.0, 0.0]), random)),
-    },
-    Family { name: "NaN first", op: Op::Distance, target: None, pairs: 1, sizes: &[(1_000, 4, MOST)], draw: nan_first },
-    Family {
-        name: "NaN first",
-        op: Op::LongestLine,
-        target: None,
-        pairs: 1,
-        sizes: &[(1_000, 4, MOST)],
-        draw: nan_first,
-    },
-    Family {
-        name: "equal roots",
-        op: Op::Distance,
-        target: None,
-        pairs: 1,
-        sizes: &[(1_000, 4, MOST)],
-        draw: |n, _| equal_roots(n, MORE, LESS),
-    },
-    Family {
-        name: "equal roots",
-        op: Op::LongestLine,
-        target: None,
-        pairs: 1,
-        sizes: &[(1_000, 4, MOST)],
-        draw: |n, _| equal_roots(n, LESS, MORE),
-    },
-];
+/// One pair of each size, and no target.
+const fn family(
+    name: &'static str,
+    ops: &'static [Op],
+    sizes: &'static [(usize, usize, usize)],
+    draw: fn(usize, &mut Random) -> (Geometry, Geometry),
+) -> Family {
+    Family { name, ops, target: None, pairs: 1, sizes, draw }
+}
 
 impl Family {
-    fn pairs(&self, size: usize) -> Vec<Pair> {
+    const fn of_pairs(self, pairs: usize) -> Family {
+        Family { pairs, ..self }
+    }
+
+    const fn target(self, ratio: f64) -> Family {
+        Family { target: Some(ratio), ..self }
+    }
+
+    fn drawn(&self, size: usize) -> Vec<Pair> {
         let random = &mut Random::new(size as u64);
         (0..self.pairs)
             .map(|_| {
@@ -233,20 +163,46 @@ impl Family {
     }
 }
 
+const FAMILIES: [Family; 10] = [
+    family("corridor", FAR, &[(1_000, 4, MOST), (4_000, 1, MOST), (16_000, 1, MOST)], routes).of_pairs(10).target(1.0),
+    family("sphere", FAR, &[(1_000, 1, MOST), (4_000, 1, 3), (16_000, 1, 2)], |n, random| {
+        (sphere(n, random), sphere(n, random))
+    })
+    .target(0.1),
+    family("TIN", NEAR, &[(250, 20, MOST), (1_000, 4, MOST), (4_000, 1, 5)], |n, random| {
+        surfaces(n, 30.0, -30.0, 12.0, random)
+    })
+    .target(1.0),
+    family("TIN near", NEAR, &[(250, 4, MOST), (1_000, 1, MOST), (4_000, 1, 3)], |n, random| {
+        surfaces(n, 0.0, 0.0, 1.0, random)
+    })
+    .target(1.0),
+    family("TIN far", NEAR, &[(250, 20, MOST), (1_000, 4, MOST), (4_000, 1, 5)], |n, random| {
+        surfaces(n, 2_000.0, 2_000.0, 12.0, random)
+    })
+    .target(1.0),
+    family("lines", NEAR, &[(1_000, 4, MOST), (4_000, 1, 5)], routes),
+    family("multipoints", BOTH, &[(2_000, 1, MOST)], |n, random| two_groups(n, random, dents)),
+    family("NaN first", BOTH, &[(1_000, 4, MOST)], |n, random| two_groups(n, random, dents_after_empty)),
+    family("equal roots", NEAR, &[(1_000, 4, MOST)], |n, _| equal_roots(n, MORE, LESS)),
+    family("equal roots", FAR, &[(1_000, 4, MOST)], |n, _| equal_roots(n, LESS, MORE)),
+];
+
 pub fn workloads() -> Vec<Workload> {
     let mut list = Vec::new();
     for family in &FAMILIES {
         for &(size, times, rounds) in family.sizes {
-            list.push(Workload {
-                name: format!("{} {} {size}", family.name, family.op.name()),
+            let pairs = Rc::new(family.drawn(size));
+            list.extend(family.ops.iter().map(|&op| Workload {
+                name: format!("{} {} {size}", family.name, op.name()),
                 table: Table::Large,
-                ops: vec![family.op],
-                pairs: Rc::new(family.pairs(size)),
+                ops: vec![op],
+                pairs: pairs.clone(),
                 times,
                 rounds,
                 target: family.target,
                 growth: Some((family.name, size)).filter(|_| family.sizes.len() > 1),
-            });
+            }));
         }
     }
     list
