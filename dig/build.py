@@ -17,17 +17,11 @@ import sys
 import time
 
 from dig.problems import Problems
+from dig.ready import ARCHIVE, INSTALLED, LISTING, ROOT, SHARED, TARGET
 from viskorrel import LibraryMissing, load
-from viskorrel._library import NAME, VARIABLE
+from viskorrel._library import VARIABLE
 
-ROOT = os.path.dirname(os.path.dirname(os.path.realpath(__file__)))
-LISTING = os.path.join(ROOT, "crates.txt")
-TARGET = os.path.join(ROOT, "target")
-ARCHIVE = os.path.join(TARGET, "staticlib", "libviskorrel.a")
-SHARED = os.path.join(TARGET, "libviskorrel.so")
 LOG = os.path.join(TARGET, "build.log")  # the prover's lines
-INSTALLED = not os.path.exists(LISTING)
-USUAL = "the installed one" if INSTALLED else "the repository's own"  # where no library is named
 DEMO = "viskorrel-demo" if INSTALLED else os.path.join(TARGET, "demo")
 TICK = 20  # seconds between signs of life
 EACH = 1000  # what a crate costs beside its code, in bytes of code: the estimate of the time left
@@ -236,7 +230,7 @@ def link_command():
     shared = os.path.join(ROOT, "shared")
     return [os.environ.get("CC", "cc"), "-std=c99", "-O2", "-Wall", "-Wextra", "-fPIC", "-fvisibility=hidden", "-shared",
             "-Wl,-soname,libviskorrel.so.0", "-Wl,-z,noexecstack", f"-Wl,--version-script={os.path.join(shared, 'exports.map')}",
-            "-I", os.path.join(ROOT, "include"), os.path.join(shared, "batch.c"), os.path.join(shared, "words.c"),
+            "-I", os.path.join(ROOT, "include"), *(os.path.join(shared, file) for file in ("batch.c", "measure.c", "words.c")),
             "-Wl,--whole-archive", ARCHIVE, "-Wl,--no-whole-archive"]
 
 

@@ -5,12 +5,13 @@ import os
 from viskorrel._library import VARIABLE
 
 ROOT = os.path.dirname(os.path.dirname(os.path.realpath(__file__)))
+LISTING = os.path.join(ROOT, "crates.txt")
 TARGET = os.path.join(ROOT, "target")
 SHARED = os.path.join(TARGET, "libviskorrel.so")
 ARCHIVE = os.path.join(TARGET, "staticlib", "libviskorrel.a")
 SEEN = os.path.join(TARGET, "build.seen")
 SOURCES = ("crates", "shared", "include")
-INSTALLED = not os.path.exists(os.path.join(ROOT, "crates.txt"))
+INSTALLED = not os.path.exists(LISTING)
 
 
 def library(named=None):
@@ -42,7 +43,7 @@ def seen(of_sources):
 
 def sources():
     """The files that the library is made of, and some more."""
-    found, folders = [os.path.join(ROOT, "crates.txt")], [os.path.join(ROOT, name) for name in SOURCES]
+    found, folders = [LISTING], [os.path.join(ROOT, name) for name in SOURCES]
     while folders:
         for entry in os.scandir(folders.pop()):
             if not entry.is_dir():

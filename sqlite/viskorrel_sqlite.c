@@ -9,29 +9,12 @@
 #include <sqlite3ext.h>
 SQLITE_EXTENSION_INIT1
 
-#include "viskorrel_batch.h"
+#include "measure.h"
 #include "viskorrel_words.h"
 
-#if defined(_WIN32)
-#define EXPORTED __declspec(dllexport)
-#else
 #define EXPORTED __attribute__((visibility("default")))
-#endif
 
 /* ---- The functions ---- */
-
-typedef viskorrel_reply two_blobs(
-    const uint8_t *, size_t, const uint8_t *, size_t,
-    double *, size_t, uint32_t *, size_t, double *, size_t, uint32_t *, size_t);
-
-typedef viskorrel_reply two_blobs_and_distance(
-    const uint8_t *, size_t, const uint8_t *, size_t, double,
-    double *, size_t, uint32_t *, size_t, double *, size_t, uint32_t *, size_t);
-
-typedef viskorrel_reply two_blobs_to_blob(
-    const uint8_t *, size_t, const uint8_t *, size_t,
-    double *, size_t, uint32_t *, size_t, double *, size_t, uint32_t *, size_t,
-    uint8_t *, size_t);
 
 /* What a function takes, and what it gives. */
 enum form {
@@ -49,39 +32,29 @@ enum form {
 struct function {
     const char *name;
     enum form form;
-    int arguments; /* how many */
-    int blobs;     /* how many of them, from the first on, are blobs */
-    two_blobs *measure;
-    two_blobs_and_distance *within;
-    two_blobs_to_blob *write;
+    int arguments;      /* how many */
+    int blobs;          /* how many of them, from the first on, are blobs */
+    uint32_t operation; /* of the library, where it is a measure: all but the last three */
 };
 
 static const struct function functions[] = {
-    {"ST_3DDistance", DISTANCE, 2, 2, viskorrel_3d_distance, 0, 0},
-    {"ST_3DMaxDistance", DISTANCE, 2, 2, viskorrel_3d_max_distance, 0, 0},
-    {"ST_3DIntersects", QUESTION, 2, 2, viskorrel_3d_intersects, 0, 0},
-    {"ST_3DDWithin", WITHIN, 3, 2, 0, viskorrel_3d_dwithin, 0},
-    {"ST_3DDFullyWithin", WITHIN, 3, 2, 0, viskorrel_3d_dfully_within, 0},
-    {"ST_3DClosestPoint", POINT, 2, 2, 0, 0, viskorrel_3d_closest_point},
-    {"ST_3DShortestLine", LINE, 2, 2, 0, 0, viskorrel_3d_shortest_line},
-    {"ST_3DLongestLine", LINE, 2, 2, 0, 0, viskorrel_3d_longest_line},
-    {"ST_3DLineInterpolatePoint", INTERPOLATED, 2, 1, 0, 0, 0},
-    {"ST_PatchN", PATCH, 2, 1, 0, 0, 0},
-    {"Viskorrel_Refusal", REFUSAL, 1, 0, 0, 0, 0},
-    {"Viskorrel_Version", VERSION, 0, 0, 0, 0, 0},
+    {"ST_3DDistance", DISTANCE, 2, 2, VISKORREL_DISTANCE},
+    {"ST_3DMaxDistance", DISTANCE, 2, 2, VISKORREL_MAX_DISTANCE},
+    {"ST_3DIntersects", QUESTION, 2, 2, VISKORREL_INTERSECTS},
+    {"ST_3DDWithin", WITHIN, 3, 2, VISKORREL_DWITHIN},
+    {"ST_3DDFullyWithin", WITHIN, 3, 2, VISKORREL_DFULLY_WITHIN},
+    {"ST_3DClosestPoint", POINT, 2, 2, VISKORREL_CLOSEST_POINT},
+    {"ST_3DShortestLine", LINE, 2, 2, VISKORREL_SHORTEST_LINE},
+    {"ST_3DLongestLine", LINE, 2, 2, VISKORREL_LONGEST_LINE},
+    {"ST_3DLineInterpolatePoint", INTERPOLATED, 2, 1, VISKORREL_LINE_INTERPOLATE_POINT},
+    {"ST_PatchN", PATCH, 2, 1, 0},
+    {"Viskorrel_Refusal", REFUSAL, 1, 0, 0},
+    {"Viskorrel_Version", VERSION, 0, 0, 0},
 };
 
 #define FUNCTIONS (sizeof functions / sizeof functions[0])
 
 /* ---- Lent memory ---- */
-
-/* A workspace. Its buffers are kept between calls, and freed with the connection. Null where the length is 0. */
-struct workspace {
-    double *floats;
-    uint32_t *table;
-    size_t floats_length;
-    size_t table_length;
-};
 
 struct connection;
 
@@ -94,20 +67,15 @@ struct binding {
 /* One for each loading: SQLite runs the functions of one connection one at a time. */
 struct connection {
     size_t users; /* bindings that SQLite still holds, and the loading while it lasts */
-    struct workspace workspaces[2];
+    struct measurer measurer;
     struct binding bindings[FUNCTIONS];
 };
 
 static void release(struct connection *connection)
 {
-    size_t i;
-
     if (--connection->users > 0)
         return;
-    for (i = 0; i < 2; i++) {
-        sqlite3_free(connection->workspaces[i].floats);
-        sqlite3_free(connection->workspaces[i].table);
-    }
+    release_workspaces(&connection->measurer);
     sqlite3_free(connection);
 }
 
@@ -116,38 +84,10 @@ static void release_binding(void *data)
     release(((struct binding *)data)->connection);
 }
 
-/* A new buffer for length elements; null if there is no memory, or if no number of bytes is so great. */
-static void *buffer(size_t length, size_t element)
+/* Memory of SQLite's, so that its limits hold. */
+static void *allocate(size_t bytes)
 {
-    if (length > SIZE_MAX / element)
-        return 0;
-    return sqlite3_malloc64((sqlite3_uint64)(length * element));
-}
-
-/* Makes the workspace long enough for the blob. What it held is lost. SQLITE_OK or SQLITE_NOMEM. */
-static int lengthen(struct workspace *w, const uint8_t *blob, size_t length)
-{
-    viskorrel_pair sizes = viskorrel_sizes(blob, length);
-
-    if (sizes.outcome != VISKORREL_ANSWERED)
-        return SQLITE_OK; /* the operation refuses such a blob before it looks at the workspace */
-    if (sizes.first > w->floats_length) {
-        sqlite3_free(w->floats);
-        w->floats_length = 0;
-        w->floats = buffer(sizes.first, sizeof *w->floats);
-        if (!w->floats)
-            return SQLITE_NOMEM;
-        w->floats_length = sizes.first;
-    }
-    if (sizes.second > w->table_length) {
-        sqlite3_free(w->table);
-        w->table_length = 0;
-        w->table = buffer(sizes.second, sizeof *w->table);
-        if (!w->table)
-            return SQLITE_NOMEM;
-        w->table_length = sizes.second;
-    }
-    return SQLITE_OK;
+    return sqlite3_malloc64(bytes);
 }
 
 /* ---- Errors ---- */
@@ -174,18 +114,20 @@ static char *words_of(uint32_t number, const uint8_t *blob, size_t length)
 
 /* ---- Calls ---- */
 
-/* What the arguments say. */
+/* A function, and what the arguments say; the blobs are those of the measurer's sides. */
 struct call {
-    const uint8_t *blobs[2];
-    size_t lengths[2];
+    const struct function *function;
+    struct measurer *measurer;
     double number;       /* a distance or a fraction */
     sqlite3_int64 index; /* of a patch */
 };
 
-static void refused(sqlite3_context *context, const struct function *f, const struct call *c, uint32_t number, uint32_t side)
+static void refused(sqlite3_context *context, const struct call *c, uint32_t number, uint32_t side)
 {
+    const struct function *f = c->function;
+    const struct side *s = side >= 1 && side <= 2 ? &c->measurer->sides[side - 1] : 0;
     int argument = number == 1 || number == 2 ? f->blobs + 1 : (int)side; /* the number stands after the blobs */
-    char *text = side >= 1 && side <= 2 ? words_of(number, c->blobs[side - 1], c->lengths[side - 1]) : words_of(number, 0, 0);
+    char *text = s ? words_of(number, s->blob, s->length) : words_of(number, 0, 0);
 
     if (text)
         error(context, f, argument, text);
@@ -195,28 +137,32 @@ static void refused(sqlite3_context *context, const struct function *f, const st
 }
 
 /* Reads the arguments; 0 if it has given the result already: NULL or an error. */
-static int read_arguments(sqlite3_context *context, const struct function *f, sqlite3_value **values, struct call *call)
+static int read_arguments(sqlite3_context *context, sqlite3_value **values, struct call *call)
 {
-    static const uint8_t no_byte = 0;
+    struct binding *binding = sqlite3_user_data(context);
+    const struct function *f = binding->function;
     int i, type;
 
+    call->function = f;
+    call->measurer = &binding->connection->measurer;
     for (i = 0; i < f->arguments; i++)
         if (sqlite3_value_type(values[i]) == SQLITE_NULL)
             return 0;
     for (i = 0; i < f->blobs; i++) {
+        const uint8_t *blob;
+        size_t length;
+
         if (sqlite3_value_type(values[i]) != SQLITE_BLOB) {
             error(context, f, i + 1, "not a blob");
             return 0;
         }
-        call->blobs[i] = sqlite3_value_blob(values[i]);
-        call->lengths[i] = (size_t)sqlite3_value_bytes(values[i]);
-        if (!call->blobs[i]) {
-            if (call->lengths[i] > 0) {
-                sqlite3_result_error_nomem(context);
-                return 0;
-            }
-            call->blobs[i] = &no_byte;
+        blob = sqlite3_value_blob(values[i]);
+        length = (size_t)sqlite3_value_bytes(values[i]);
+        if (!blob && length > 0) {
+            sqlite3_result_error_nomem(context);
+            return 0;
         }
+        set_blob(&call->measurer->sides[i], blob, length);
     }
     if (f->blobs == f->arguments)
         return 1;
@@ -237,80 +183,30 @@ static int read_arguments(sqlite3_context *context, const struct function *f, sq
     return 1;
 }
 
-/* Asks the library once, with the workspaces as they are. */
-static viskorrel_reply ask(const struct function *f, const struct call *c, const struct workspace *w, uint8_t *output, size_t output_length)
-{
-    double no_float[2];
-    uint32_t no_number[2];
-    double *floats[2];
-    uint32_t *tables[2];
-    int i;
-
-    for (i = 0; i < 2; i++) {
-        floats[i] = w[i].floats ? w[i].floats : &no_float[i];
-        tables[i] = w[i].table ? w[i].table : &no_number[i];
-    }
-    if (f->measure)
-        return f->measure(
-            c->blobs[0], c->lengths[0], c->blobs[1], c->lengths[1],
-            floats[0], w[0].floats_length, tables[0], w[0].table_length,
-            floats[1], w[1].floats_length, tables[1], w[1].table_length);
-    if (f->within)
-        return f->within(
-            c->blobs[0], c->lengths[0], c->blobs[1], c->lengths[1], c->number,
-            floats[0], w[0].floats_length, tables[0], w[0].table_length,
-            floats[1], w[1].floats_length, tables[1], w[1].table_length);
-    if (f->write)
-        return f->write(
-            c->blobs[0], c->lengths[0], c->blobs[1], c->lengths[1],
-            floats[0], w[0].floats_length, tables[0], w[0].table_length,
-            floats[1], w[1].floats_length, tables[1], w[1].table_length,
-            output, output_length);
-    return viskorrel_3d_line_interpolate_point(
-        c->blobs[0], c->lengths[0], c->number,
-        floats[0], w[0].floats_length, tables[0], w[0].table_length,
-        output, output_length);
-}
-
 /* Every measure: all functions but the last three. */
 static void operation(sqlite3_context *context, int count, sqlite3_value **values)
 {
-    struct binding *binding = sqlite3_user_data(context);
-    const struct function *f = binding->function;
-    struct workspace *workspaces = binding->connection->workspaces;
-    struct call call = {{0, 0}, {0, 0}, 0, 0};
+    struct call call = {0, 0, 0, 0};
     uint8_t output[VISKORREL_LINE_BYTES];
     viskorrel_reply reply;
-    int lengthened;
 
     (void)count;
-    if (!read_arguments(context, f, values, &call))
+    if (!read_arguments(context, values, &call))
         return;
-
-    /* A workspace that is too short is refused only after everything else was checked, and nothing has changed then: lengthen, ask again. */
-    reply = ask(f, &call, workspaces, output, sizeof output);
-    for (lengthened = 0; lengthened < 2; lengthened++) {
-        size_t i = reply.side == 2 ? 1 : 0;
-
-        if (reply.outcome != VISKORREL_REFUSED || reply.number != 15)
-            break;
-        if (lengthen(&workspaces[i], call.blobs[i], call.lengths[i]) != SQLITE_OK) {
-            sqlite3_result_error_nomem(context);
-            return;
-        }
-        reply = ask(f, &call, workspaces, output, sizeof output);
+    if (!measure(call.measurer, call.function->operation, call.number, output, sizeof output, &reply)) {
+        sqlite3_result_error_nomem(context);
+        return;
     }
-
     if (reply.outcome == VISKORREL_REFUSED) {
-        refused(context, f, &call, reply.number, reply.side);
+        refused(context, &call, reply.number, reply.side);
         return;
     }
-    switch (f->form) {
+    switch (call.function->form) {
     case DISTANCE:
         if (reply.outcome != VISKORREL_ANSWERED)
             return;
         if (reply.value != reply.value)
-            error(context, f, 0, "the distance is NaN");
+            error(context, call.function, 0, "the distance is NaN");
         else
             sqlite3_result_double(context, reply.value);
         return;
@@ -335,26 +231,28 @@ static void operation(sqlite3_context *context, int count, sqlite3_value **value
 /* ST_PatchN: NULL where there is no such patch, or no surface. */
 static void patch(sqlite3_context *context, int count, sqlite3_value **values)
 {
-    const struct function *f = ((struct binding *)sqlite3_user_data(context))->function;
-    struct call call = {{0, 0}, {0, 0}, 0, 0};
+    struct call call = {0, 0, 0, 0};
+    const struct side *surface;
     viskorrel_pair part;
     uint64_t n;
 
     (void)count;
-    if (!read_arguments(context, f, values, &call))
+    if (!read_arguments(context, values, &call))
         return;
+    surface = &call.measurer->sides[0];
     /* Below 1 there is no patch, nor at the greatest number: a surface counts them in 32 bits. */
     n = call.index >= 1 ? (uint64_t)call.index - 1 : UINT64_MAX;
-    part = viskorrel_patch(call.blobs[0], call.lengths[0], n);
+    part = viskorrel_patch(surface->blob, surface->length, n);
     if (part.outcome == VISKORREL_REFUSED)
-        refused(context, f, &call, part.number, part.side);
+        refused(context, &call, part.number, part.side);
     else if (part.outcome == VISKORREL_ANSWERED)
-        sqlite3_result_blob64(context, call.blobs[0] + part.first, part.second - part.first, SQLITE_TRANSIENT);
+        sqlite3_result_blob64(context, surface->blob + part.first, part.second - part.first, SQLITE_TRANSIENT);
 }
 
 /* Viskorrel_Refusal: NULL for NULL, and for a blob that an operation on two blobs accepts. */
 static void refusal(sqlite3_context *context, int count, sqlite3_value **values)
 {
+    struct binding *binding = sqlite3_user_data(context);
     const uint8_t *blob;
     size_t length;
     viskorrel_reply reply;
@@ -369,7 +267,7 @@ static void refusal(sqlite3_context *context, int count, sqlite3_value **values)
     }
     blob = sqlite3_value_blob(values[0]);
     length = (size_t)sqlite3_value_bytes(values[0]);
-    reply = viskorrel_blob_refusal(blob, length);
+    reply = refusal_of(&binding->connection->measurer, blob, length);
     if (reply.outcome == VISKORREL_ANSWERED)
         return;
     text = reply.outcome == VISKORREL_REFUSED ? words_of(reply.number, blob, length) : 0;
@@ -413,12 +311,7 @@ EXPORTED int sqlite3_viskorrelsqlite_init(sqlite3 *db, char **message, const sql
     if (!connection)
         return SQLITE_NOMEM;
     connection->users = 1;
-    for (i = 0; i < 2; i++) {
-        connection->workspaces[i].floats = 0;
-        connection->workspaces[i].table = 0;
-        connection->workspaces[i].floats_length = 0;
-        connection->workspaces[i].table_length = 0;
-    }
+    connection->measurer = measurer_of(allocate, sqlite3_free);
     for (i = 0; i < FUNCTIONS && rc == SQLITE_OK; i++) {
         const struct function *f = &functions[i];
 
