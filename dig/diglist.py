@@ -150,6 +150,13 @@ def named(things):
     return ", ".join(things[:NAMED]) + (f" and {len(things) - NAMED} more" if len(things) > NAMED else "")
 
 
+def warn(text, those):
+    """The warning, noted at each dent or group that it speaks of."""
+    for one in those:
+        one.warnings.append(text)
+    return text
+
+
 def of_dents(listed):
     found = []
     again = [dent for dent in listed.dents if dent.same_as]
@@ -165,9 +172,7 @@ def of_dents(listed):
         if len(others) > 1:
             text = "one geometry in several groups, counted in each: " + named(
                 f"{dent.feature.name} (group {group})" for group, dent in others.items())
-            for dent in others.values():
-                dent.warnings.append(text)
-            found.append(text)
+            found.append(warn(text, others.values()))
     if not listed.dents:
         found.append("there are no dents")
     elif all(dent.nearest is None for dent in listed.dents):
@@ -199,9 +204,7 @@ def of_labels(dents):
     for label, those in seen.items():
         if len(those) > 1:
             text = f"{len(those)} dents have the label {label}: features {named(dent.feature.id for dent in those)}"
-            for dent in those:
-                dent.warnings.append(text)
-            found.append(text)
+            found.append(warn(text, those))
     return found
 
 
@@ -215,9 +218,7 @@ def of_groups(groups):
     for those in alike.values():
         if len(those) > 1:
             text = "groups whose names differ only in case or spaces: " + named(repr(group.name) for group in those)
-            for group in those:
-                group.warnings.append(text)
-            found.append(text)
+            found.append(warn(text, those))
     return found
 
 
@@ -232,8 +233,7 @@ def of_widths(groups):
     for group in wide:
         if group.width > FAR_OUT * usual and group.width > usual + 1:
             text = f"group {group.name}: {group.width:.3f} m to its weld is far out of the others (usual: {usual:.3f} m): is it the right weld?"
-            group.warnings.append(text)
-            found.append(text)
+            found.append(warn(text, [group]))
     return found
 
 
@@ -248,9 +248,7 @@ def of_exchanged(groups):
         for (b, dent_b, weld_b), own_b in long[at + 1:]:
             if math.dist(dent_a, weld_b) < own_a and math.dist(dent_b, weld_a) < own_b:
                 text = f"groups {a.name} and {b.name}: each is nearer to the other's weld than to its own: are the welds exchanged?"
-                a.warnings.append(text)
-                b.warnings.append(text)
-                found.append(text)
+                found.append(warn(text, [a, b]))
     return found
 
 

@@ -7,10 +7,15 @@ import shutil
 import sqlite3
 import struct
 import subprocess
+import sys
 import tempfile
 
 HERE = os.path.dirname(os.path.realpath(__file__))
 ROOT = os.path.dirname(os.path.dirname(HERE))
+sys.path.insert(0, ROOT)
+
+from dig import bounds
+
 COMMAND = os.environ.get("VISKORREL_COMMAND", os.path.join(ROOT, "viskorrel"))
 STAMP = re.compile(r"\ADIG LIST\n(?:.+\n)+\n")
 
@@ -79,11 +84,12 @@ class Tests:
         self.files += 1
         return os.path.join(self.folder, f"file{self.files}{end}")
 
-    def changed(self, *statements, source=None):
-        """A copy of the demo's file after some SQL."""
-        path = self.path()
-        shutil.copy(source or self.whole, path)
+    def changed(self, *statements, source=None, path=None):
+        """A copy of the demo's file, or of another, after some SQL."""
+        path = path or self.path()
+        shutil.copyfile(source or self.whole, path)
         file = sqlite3.connect(path)
+        bounds.functions(file)
         for statement, *values in statements:
             file.execute(statement, values)
         file.commit()

@@ -3,12 +3,8 @@ import math
 import os
 import random
 import sqlite3
-import sys
 
-from common import ROOT
-
-sys.path.insert(0, ROOT)
-
+import common  # so that dig is found
 from dig import corridor
 
 SRID = corridor.SRID

@@ -4,11 +4,8 @@ import os
 import re
 import sqlite3
 import struct
-import sys
 
-from common import ROOT, content, ogr, point, rows, run, sha256, told
-
-sys.path.insert(0, ROOT)
+from common import content, ogr, point, rows, run, sha256, told
 
 X, Y = 500100.0, 5600200.0
 
@@ -34,17 +31,7 @@ def by_gdal(t):
 def edited(t, source, name, *statements):
     """A copy of a file as a tablet would have it, under a name of its own."""
     folder = os.path.dirname(t.path())
-    path = os.path.join(folder, f"{t.files}-{name}")
-    with open(path, "wb") as file:
-        file.write(content(source))
-    file = sqlite3.connect(path)
-    from dig import bounds
-    bounds.functions(file)
-    for statement, *values in statements:
-        file.execute(statement, values)
-    file.commit()
-    file.close()
-    return path
+    return t.changed(*statements, source=source, path=os.path.join(folder, f"{t.files}-{name}"))
 
 
 def dent(id, x, group, z=-2.0):

@@ -2,12 +2,9 @@
 import math
 import random
 import struct
-import sys
 
 import corridors
-from common import ROOT, body, content, point, run, told
-
-sys.path.insert(0, ROOT)
+from common import body, content, point, run, told
 
 
 def tests(t):
