@@ -10,31 +10,14 @@ pub struct Refusal {
     pub side: u32,
 }
 
-/// The conditions, from number 1 on.
-const CONDITIONS: [&str; 16] = [
-    "d is below 0",
-    "the fraction is not within 0..1, or NaN",
-    "the blob starts with \"GP\" and has under 8 bytes",
-    "GeoPackage header: the version is not 0",
-    "GeoPackage header: the bit for extended types is set",
-    "GeoPackage header: a reserved bit is set",
-    "GeoPackage header: the envelope indicator is 5, 6 or 7",
-    "the blob ends in the envelope",
-    "a geometry's header, an SRID, a count or a run of coordinates is longer than the bytes left",
-    "a byte order is above 1",
-    "a geometry has an unknown kind",
-    "a geometry stands more than 32 levels deep",
-    "operations on two blobs: the type at the top has no Z",
-    "interpolation: there is a point or face, or no segment",
-    "the floats or the table of that side are too short",
-    "the output is too short, even where the answer is nothing",
-];
+/// The table of refusals stands in the header: a line has `*`, the number, and after two spaces its words.
+const HEADER: &str = include_str!("../../include/viskorrel.h");
 
 impl Refusal {
     /// The condition under which this number is given, in words.
     pub fn condition(&self) -> &'static str {
-        let place = (self.number as usize).wrapping_sub(1);
-        CONDITIONS.get(place).copied().unwrap_or("a number outside the table")
+        let row = format!(" * {:4}  ", self.number);
+        HEADER.lines().find_map(|line| line.strip_prefix(&row)).unwrap_or("a number outside the table")
     }
 }
 
