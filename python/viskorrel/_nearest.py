@@ -7,7 +7,7 @@ from array import array
 from ._geometry import Blobs
 from ._library import ANSWERED, REFUSED, NearestArrays, library
 from ._refusal import Refusal
-from .batch import DONE, NO_MEMORY, listed
+from .batch import check, listed
 
 PAIRS = 1 << 19    # in one call of C, if they are all measured: between calls progress is told and Ctrl-C is heard
 ALONE = {True: 1 << 21, False: 1 << 15}  # fewer pairs, with boxes and without, are not worth a thread
@@ -97,10 +97,3 @@ def box_list(blobs):
     room = array("d", bytes(48 * blobs.count))
     check(library().viskorrel_boxes(ctypes.addressof(blobs), room.buffer_info()[0]))
     return room
-
-
-def check(result):
-    if result == NO_MEMORY:
-        raise MemoryError
-    if result != DONE:
-        raise IndexError("a place is outside its sequence")

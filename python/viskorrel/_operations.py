@@ -107,14 +107,14 @@ class NoSurface(ValueError):
     """The geometry is no polyhedral surface, TIN or triangle, or what stands before its content is at fault."""
 
 
-def of_surface(name, geometry, *numbers):
-    """The reply to a question about a surface."""
-    pair = getattr(library(), name)(geometry, len(geometry), *numbers)
-    if pair.outcome == REFUSED:
-        raise Refusal(pair.number, pair.side, geometry)
-    if pair.outcome == NO_SURFACE:
+def ask_of(name, geometry, *numbers):
+    """The reply to a question about one geometry, for which no memory is lent."""
+    reply = getattr(library(), name)(geometry, len(geometry), *numbers)
+    if reply.outcome == REFUSED:
+        raise Refusal(reply.number, reply.side, geometry)
+    if reply.outcome == NO_SURFACE:
         raise NoSurface("the geometry is no surface")
-    return pair
+    return reply
 
 
 def patch(surface, n):
@@ -122,17 +122,17 @@ def patch(surface, n):
     if not 0 <= n < 2**64:
         raise ValueError("n is not within 0..2^64-1")
     geometry = blob(surface)
-    pair = of_surface("viskorrel_patch", geometry, n)
+    pair = ask_of("viskorrel_patch", geometry, n)
     return geometry[pair.first:pair.second] if pair.outcome == ANSWERED else None
 
 
 def patches(surface):
     """All patches of a surface in order, as bare WKB; each is scanned twice, however many there are."""
     geometry = blob(surface)
-    listed = of_surface("viskorrel_patches", geometry)
+    listed = ask_of("viskorrel_patches", geometry)
     found, at = [], listed.first
     for left in range(listed.second, 0, -1):
-        pair = of_surface("viskorrel_next_patch", geometry, at, left)
+        pair = ask_of("viskorrel_next_patch", geometry, at, left)
         found.append(geometry[pair.first:pair.second])
         at = pair.second
     return found
@@ -140,10 +140,10 @@ def patches(surface):
 
 def refusal(geometry):
     """None, or the Refusal that the geometry gets as a side of an operation on two."""
-    geometry = blob(geometry)
-    reply = library().viskorrel_blob_refusal(geometry, len(geometry))
-    if reply.outcome == REFUSED:
-        return Refusal(reply.number, reply.side, geometry)
+    try:
+        reply = ask_of("viskorrel_blob_refusal", blob(geometry))
+    except Refusal as refused:
+        return refused.with_traceback(None)
     if reply.outcome != ANSWERED:
         raise MemoryError
     return None
@@ -171,10 +171,7 @@ def read(geometry):
 
 def sizes(geometry):
     """The lengths of the workspace that a geometry takes: floats (three for each coordinate) and numbers (two for each run)."""
-    geometry = blob(geometry)
-    pair = library().viskorrel_sizes(geometry, len(geometry))
-    if pair.outcome == REFUSED:
-        raise Refusal(pair.number, pair.side, geometry)
+    pair = ask_of("viskorrel_sizes", blob(geometry))
     return pair.first, pair.second
 
 

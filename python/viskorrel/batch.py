@@ -119,6 +119,14 @@ def listed(blobs):
     return BlobList(ctypes.addressof(blobs.pointers), blobs.lengths.buffer_info()[0], len(blobs))
 
 
+def check(result):
+    """What C says of a whole call."""
+    if result == NO_MEMORY:
+        raise MemoryError
+    if result != DONE:
+        raise IndexError("a place of pairs is outside its sequence")
+
+
 def as_numbers(number, count):
     """One number for all elements, or one for each."""
     if number is None:
@@ -153,13 +161,9 @@ def run(operation, a, b, number=None, pairs=None, refused="raise"):
     given = Elements(*(part.buffer_info()[0] if part is not None else None for part in (first, second, numbers)), len(numbers), 0, 0)
     for given.start in range(0, count, CALL):
         given.end = min(given.start + CALL, count)
-        result = library().viskorrel_batch(
+        check(library().viskorrel_batch(
             operation, ctypes.addressof(lists[0]), ctypes.addressof(lists[1]) if lists[1] is not None else None, ctypes.addressof(given),
-            ctypes.addressof(arrays))
-        if result == NO_MEMORY:
-            raise MemoryError
-        if result != DONE:
-            raise IndexError("a place of pairs is outside its sequence")
+            ctypes.addressof(arrays)))
 
     def spoken_of(element, side):
         (blobs, one), chosen = ((a, first), (b, second))[side - 1]
@@ -171,38 +175,34 @@ def run(operation, a, b, number=None, pairs=None, refused="raise"):
     return answers
 
 
-def distance(a, b, pairs=None, refused="raise"):
-    return run(DISTANCE, a, b, None, pairs, refused)
+def on_two(name, operation):
+    """The function of an operation on two geometries."""
+    def function(a, b, pairs=None, refused="raise"):
+        return run(operation, a, b, None, pairs, refused)
+    return named(name, function)
 
 
-def max_distance(a, b, pairs=None, refused="raise"):
-    return run(MAX_DISTANCE, a, b, None, pairs, refused)
+def within(name, operation):
+    """The function of a question about two geometries and a distance."""
+    def function(a, b, d, pairs=None, refused="raise"):
+        """d is one number for all elements, or one for each."""
+        return run(operation, a, b, d, pairs, refused)
+    return named(name, function)
 
 
-def intersects(a, b, pairs=None, refused="raise"):
-    return run(INTERSECTS, a, b, None, pairs, refused)
+def named(name, function):
+    function.__name__ = function.__qualname__ = name
+    return function
 
 
-def dwithin(a, b, d, pairs=None, refused="raise"):
-    """d is one number for all elements, or one for each."""
-    return run(DWITHIN, a, b, d, pairs, refused)
-
-
-def dfully_within(a, b, d, pairs=None, refused="raise"):
-    """d is one number for all elements, or one for each."""
-    return run(DFULLY_WITHIN, a, b, d, pairs, refused)
-
-
-def closest_point(a, b, pairs=None, refused="raise"):
-    return run(CLOSEST_POINT, a, b, None, pairs, refused)
-
-
-def shortest_line(a, b, pairs=None, refused="raise"):
-    return run(SHORTEST_LINE, a, b, None, pairs, refused)
-
-
-def longest_line(a, b, pairs=None, refused="raise"):
-    return run(LONGEST_LINE, a, b, None, pairs, refused)
+distance = on_two("distance", DISTANCE)
+max_distance = on_two("max_distance", MAX_DISTANCE)
+intersects = on_two("intersects", INTERSECTS)
+dwithin = within("dwithin", DWITHIN)
+dfully_within = within("dfully_within", DFULLY_WITHIN)
+closest_point = on_two("closest_point", CLOSEST_POINT)
+shortest_line = on_two("shortest_line", SHORTEST_LINE)
+longest_line = on_two("longest_line", LONGEST_LINE)
 
 
 def line_interpolate_point(lines, fraction, refused="raise"):
