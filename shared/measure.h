@@ -1,4 +1,7 @@
-/* One call of an operation, with as much memory as it takes: for batch.c and for SQLite's functions. The proved library decides every answer. */
+/*
+ * One call of an operation, with as much memory as it takes: for batch.c and for SQLite's functions. The proved library decides every
+ * answer. No part of what is exported.
+ */
 #ifndef VISKORREL_MEASURE_H
 #define VISKORREL_MEASURE_H
 
