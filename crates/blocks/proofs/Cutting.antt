@@ -42,13 +42,13 @@ module _ (size : ℕ) (table : List ℕ) (floats : List Float) where
     rows-more is old =
         record {
           blocks = below-more _ _
-          (λ m h. record { room = rw (place-kept places n p m h) (old .blocks m h .room); cover = rw (place-kept places n p m h) (box-kept boxes n (span .all) m h ∙ old .blocks m h .cover) })
-          (record { room = rw (place-put places n p hp) room; cover = rw (place-put places n p hp) (box-put boxes n (span .all) hb ∙ spanned .cover) });
+              (λ m h. record { room = rw (place-kept places n p m h) (old .blocks m h .room); cover = rw (place-kept places n p m h) (box-kept boxes n (span .all) m h ∙ old .blocks m h .cover) })
+              (record { room = rw (place-put places n p hp) room; cover = rw (place-put places n p hp) (box-put boxes n (span .all) hb ∙ spanned .cover) });
           items =
-            let z : 0 + n ≡ n = omega arith in
-            rw add-one
-            (blocks-more size table floats _ n 0
-            ∙ rw (blocks-same size table floats places (sets places (numbersPerPlace * n) (placeNumbers p)) n 0 (λ m g. place-kept places n p m (omega arith)), old .items, z, place-put places n p hp));
+              let z : 0 + n ≡ n = omega arith in
+              rw add-one
+              (blocks-more size table floats _ n 0
+              ∙ rw (blocks-same size table floats places (sets places (numbersPerPlace * n) (placeNumbers p)) n 0 (λ m g. place-kept places n p m (omega arith)), old .items, z, place-put places n p hp));
         }
 
 -- ---- some items of a whole

@@ -141,9 +141,9 @@ unfolding storedRuns
 length-total class table floats = total-is class floats 0 table
 
 -- all of them
-pub past-all : (class : Class) (table : List ℕ) (floats : List Float) → take (itemTotal class table) (itemsPast class table floats 0 0 0) ≡ classItems class (storedRuns table floats)
+pub past-all : (class : Class) (table : List ℕ) (floats : List Float) (n : ℕ) → itemTotal class table ≤ n → take n (itemsPast class table floats 0 0 0) ≡ classItems class (storedRuns table floats)
 unfolding itemsPast storedRuns
-past-all class table floats = take-all (itemTotal class table) (classItems class (runsFrom floats 0 table)) (rw (total-is class floats 0 table) (omega arith))
+past-all class table floats n h = take-all n (classItems class (runsFrom floats 0 table)) (rw (total-is class floats 0 table) h)
 
 pub total-next : (class : Class) (table : List ℕ) (r : ℕ) → r < runCount table → itemTotal class (drop (numbersPerRun * r) table) ≡ itemsIn class table r + itemTotal class (drop (numbersPerRun * (r + 1)) table)
 unfolding itemTotal

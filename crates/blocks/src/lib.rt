@@ -188,7 +188,13 @@ fn cut_class(
 }
 
 // All items of a side, total of them, in blocks.
-pub fn cut(total: usize, floats: &[f64], table: &[u32], boxes: &mut [f64], places: &mut [usize]) -> Index
+pub fn cut(
+    total: usize,
+    floats: &[f64],
+    table: &[u32],
+    boxes: &mut [f64],
+    places: &mut [usize],
+) -> Index
     requires { ⌜ Laid (now table) (now floats) ⌝ }
     requires { ⌜ total ≡ length (itemsOf (storedRuns (now table) (now floats))) ⌝ }
     requires { ⌜ floatsPerBox * mostRows ≤ length (now boxes) ⌝ }
@@ -199,6 +205,14 @@ pub fn cut(total: usize, floats: &[f64], table: &[u32], boxes: &mut [f64], place
     let size = total / BLOCKS + 8;
     let points = cut_class(Class::Points, size, 0, floats, table, boxes, places);
     let segments = cut_class(Class::Segments, size, points, floats, table, boxes, places);
-    let rows = cut_class(Class::Triangles, size, segments, floats, table, boxes, places);
+    let rows = cut_class(
+        Class::Triangles,
+        size,
+        segments,
+        floats,
+        table,
+        boxes,
+        places,
+    );
     Index { rows, size }
 }

@@ -16,30 +16,27 @@ use primitives::Aabb;
 use primitives::Witness;
 ghost use mathlib.Core.Path.{_≡_};
 ghost use mathlib.Core.Bool.{true, false, _&&_, cond};
-ghost use mathlib.Core.List.{List};
 ghost use mathlib.Core.Option.{none};
 ghost use Prim.Native.Nat.{ℕ, _+_, _*_, _<_, _≤_};
 ghost use lib.ListN.{length, getD, take};
-ghost use lib.Seq.{sets};
-ghost use lib.Ieee.{Float};
 ghost use Rattle.primitives.specs.Boxes.{leastSquaredGap};
 ghost use Rattle.workspace.specs.Workspace.{floatsPerCoordinate};
-ghost use Rattle.parts.specs.Stored.{pointAt, pointsFrom, storedRuns, runCount, Laid};
+ghost use Rattle.parts.specs.Stored.{pointAt, pointsFrom, storedRuns, Laid};
 ghost use Rattle.items.specs.Items.{point, itemsOf, boxOfItem};
 ghost use Rattle.measures.specs.InnerOffers.{AllSettled};
 ghost use Rattle.items.specs.InnerRepeats.{firstBefore, firstAfter};
 ghost use Rattle.items.specs.Inner.{itemOf, itemsBy, classItems};
 ghost use Rattle.extremes.specs.InnerBest.{bestOf, Sound, Keeps};
-ghost use Rattle.listing.specs.Rows.{floatsPerBox, numbersPerPlace, placeAt};
+ghost use Rattle.items.specs.declared.Class.the-variants.{Points};
+ghost use Rattle.listing.specs.Rows.{numbersPerPlace, placeAt};
 ghost use Rattle.listing.specs.Listing.{RoomAt, listedItem, listedFrom};
 ghost use Rattle.items.specs.Closest.{withItem, withEach, sweepOf, closestOf};
 ghost use Rattle.extremes.specs.Found.{answerOf};
 ghost use Rattle.extremes.specs.ClosestSweep.{noCloser};
-ghost use Rattle.closest.specs.Inner.{atZero, Lasts};
-ghost use Rattle.closest.specs.Spans.{isOnePoint, itemsIn, itemsPast, RoomPast, itemTotal, Spanned};
-ghost use Rattle.closest.specs.Cover.{lowerOf, upperOf, coverOf, emptyCover};
-ghost use Rattle.closest.specs.Blocks.{numbersPerCursor, cursorNumbers, cursorAt, Blocks, Cut, Describes, Plans, Uncut, planWith, numbersPerPart, partAt, planAt};
-ghost use Rattle.closest.specs.Indexed.{HasEntries, Indexed};
+ghost use Rattle.blocks.specs.Spans.{itemsFrom, RoomPast};
+ghost use Rattle.blocks.specs.Blocks.{Cut};
+ghost use Rattle.closest.specs.Inner.{atZero, Lasts, isOnePoint};
+ghost use Rattle.closest.specs.Indexed.{HasEntries, Indexed, listedRows, ofClass};
 ghost use Rattle.closest.specs.Known.{Known, MeasuredBefore, Follows};
 
 // What the items of a class of A are swept against: the index of B has so many rows, of so many items each, and all is the box of B's items.
@@ -110,7 +107,7 @@ fn with_span(
     requires { ⌜ Sound best ⌝ }
     requires { ⌜ «a_box» ≡ boxOfItem (itemOf a) ⌝ }
     requires { ⌜ RoomPast (now table) (now floats) (from .r) (from .at) ⌝ }
-    ensures { λ r. ⌜ Keeps r (withEach (itemOf a) (bestOf best) (take count (itemsPast (now (table .entry)) (now (floats .entry)) from))) ⌝ }
+    ensures { λ r. ⌜ Keeps r (withEach (itemOf a) (bestOf best) (take count (itemsFrom (now (table .entry)) (now (floats .entry)) from))) ⌝ }
 {
     let class = from.class;
     let runs = parts::run_count(table);
@@ -356,7 +353,16 @@ fn from_class(
     while r < count {
         let n = parts::count_at(table1, r);
         if items::is_of_class(class, parts::kind_at(table1, r)) {
-            seen = from_run(seen, sweep, Run { at, n }, floats1, floats2, table2, boxes, places);
+            seen = from_run(
+                seen,
+                sweep,
+                Run { at, n },
+                floats1,
+                floats2,
+                table2,
+                boxes,
+                places,
+            );
         }
         at += n;
         r += 1;
@@ -368,10 +374,11 @@ fn from_class(
 fn of_class(sweep: Sweep, class: Class) -> Sweep
     ensures { λ r. ⌜ r ≡ ofClass sweep class ⌝ }
 {
+    let all = sweep.all;
     Sweep {
         class,
         stop: sweep.stop,
-        all: sweep.all,
+        all,
         rows: sweep.rows,
         size: sweep.size,
     }
@@ -395,9 +402,36 @@ fn sweep_classes(
     let none = extremes::none_yet();
     let segments = of_class(points, Class::Segments);
     let triangles = of_class(points, Class::Triangles);
-    let best1 = from_class(none, points, floats1, table1, floats2, table2, boxes, places);
-    let best2 = from_class(best1, segments, floats1, table1, floats2, table2, boxes, places);
-    from_class(best2, triangles, floats1, table1, floats2, table2, boxes, places)
+    let best1 = from_class(
+        none,
+        points,
+        floats1,
+        table1,
+        floats2,
+        table2,
+        boxes,
+        places,
+    );
+    let best2 = from_class(
+        best1,
+        segments,
+        floats1,
+        table1,
+        floats2,
+        table2,
+        boxes,
+        places,
+    );
+    from_class(
+        best2,
+        triangles,
+        floats1,
+        table1,
+        floats2,
+        table2,
+        boxes,
+        places,
+    )
 }
 
 // The sweep where B has many items, total of them: its index is of blocks.

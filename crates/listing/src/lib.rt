@@ -266,12 +266,7 @@ fn list_class(
     while r < count {
         let n = parts::count_at(table, r);
         let kind = parts::kind_at(table, r);
-        let first = Place {
-            class,
-            r,
-            at,
-            j: 0,
-        };
+        let first = Place { class, r, at, j: 0 };
         seen = list_run(seen, kind, first, n, floats, boxes, places);
         at += n;
         r += 1;

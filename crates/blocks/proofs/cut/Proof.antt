@@ -25,8 +25,7 @@ cut-class-requires-2 c κs =
     let pre = c .before .before .before .before .before .before .before .before .before .before .before .before .before .pre in
     let points = c .before .before .before .before .before .before .cut-class in
     let size = a .total / 128 + 8 in
-    let few = rows-few (a .table .now) (a .floats .now) size (omega arith) (omega (arith, pre .1 .0)) in
-    (
+    let few = rows-few (a .table .now) (a .floats .now) size (omega arith) (omega (arith, pre .1 .0)) in (
       pre .0,
       (
         omega arith,
@@ -41,8 +40,7 @@ cut-class-requires-3 c κs =
     let points = c .before .before .before .before .before .before .before .before .before .before .before .before .before .cut-class in
     let segments = c .before .before .before .before .before .before .cut-class2 in
     let size = a .total / 128 + 8 in
-    let few = rows-few (a .table .now) (a .floats .now) size (omega arith) (omega (arith, pre .1 .0)) in
-    (
+    let few = rows-few (a .table .now) (a .floats .now) size (omega arith) (omega (arith, pre .1 .0)) in (
       pre .0,
       (
         omega arith,
@@ -67,8 +65,7 @@ returns c =
     let segments = c .before .before .before .before .before .before .before .before .before .before .before .cut-class2 in
     let triangles = c .before .before .before .before .cut-class3 in
     let size = a .total / 128 + 8 in
-    let few = rows-few (a .table .now) (a .floats .now) size (omega arith) (omega (arith, pre .1 .0)) in
-    (
+    let few = rows-few (a .table .now) (a .floats .now) size (omega arith) (omega (arith, pre .1 .0)) in (
       omega arith,
       record {
         boxes-room = omega (arith, few, pre .1 .1 .0, points .ensures .0, segments .ensures .0, triangles .ensures .0, points .kept .1 .1 .1 .1 .1 .0, segments .kept .1 .1 .1 .1 .1 .0, triangles .kept .1 .1 .1 .1 .1 .0);

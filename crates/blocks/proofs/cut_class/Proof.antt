@@ -28,7 +28,7 @@ item-total-requires : tie.Need-item-total-requires Inv-loop μ-loop
 item-total-requires c κs = search needs
 
 returns : tie.Need-returns Inv-loop μ-loop
-returns c = 
+returns c =
     let a = c .before .before .before .before .before .before .args in
     let e : itemTotal (a .class) (a .table .now) ≡ 0 = sym (c .before .item-total .ensures) ∙ c .if1 .taken in
     let none = no-blocks (a .size) (itemTotal (a .class) (a .table .now)) e in
@@ -41,19 +41,19 @@ div-end : tie.Need-div-end Inv-loop μ-loop
 div-end c = omega (arith, c .before .before .before .before .before .before .pre .1 .0)
 
 add-end : tie.Need-add-end Inv-loop μ-loop
-add-end c = 
+add-end c =
     let a = c .before .before .before .before .before .before .args in
     let n : blockCount (a .size) (itemTotal (a .class) (a .table .now)) ≡ (c .before .item-total .result - 1) / a .size + 1 = rw (← c .before .item-total .ensures) (some-blocks (a .size) (c .before .item-total .result) (omega arith)) in
     omega (arith, n, c .before .before .before .before .before .before .pre .1 .1 .0, c .before .before .before .before .before .before .good .1 .1 .1 .1 .1 .0)
 
 add-end-2 : tie.Need-add-end-2 Inv-loop μ-loop
-add-end-2 c = 
+add-end-2 c =
     let a = c .before .before .before .before .before .before .args in
     let n : blockCount (a .size) (itemTotal (a .class) (a .table .now)) ≡ (c .before .item-total .result - 1) / a .size + 1 = rw (← c .before .item-total .ensures) (some-blocks (a .size) (c .before .item-total .result) (omega arith)) in
     omega (arith, n, c .before .before .before .before .before .before .pre .1 .1 .0, c .before .before .before .before .before .before .good .1 .1 .1 .1 .1 .0)
 
 loop-holds : tie.Need-loop-holds Inv-loop μ-loop
-loop-holds c = 
+loop-holds c =
     let a = c .before .before .before .before .before .before .args in
     (omega arith, omega arith, refl, refl, first-room (a .table .now) (a .floats .now) (c .before .before .before .before .before .before .pre .0), blocks-dropped-none (a .size) _ (a .rows - a .rows) (omega arith), adds-start refl)
 
@@ -61,13 +61,13 @@ cover-span-requires : tie.Need-cover-span-requires Inv-loop μ-loop
 cover-span-requires c κs = c .before .loop .inv .4
 
 put-place-requires : tie.Need-put-place-requires Inv-loop μ-loop
-put-place-requires c κs = 
+put-place-requires c κs =
     let a = c .before .before .before .before .before .before .before .before .before .before .args in
     let n : blockCount (a .size) (itemTotal (a .class) (a .table .now)) ≡ (c .before .before .before .before .before .item-total .result - 1) / a .size + 1 = rw (← c .before .before .before .before .before .item-total .ensures) (some-blocks (a .size) (c .before .before .before .before .before .item-total .result) (omega arith)) in
     omega (arith, n, c .before .before .before .before .before .before .before .before .before .before .pre .1 .1 .1, c .before .before .before .loop .inv .3)
 
 put-box-requires : tie.Need-put-box-requires Inv-loop μ-loop
-put-box-requires c κs = 
+put-box-requires c κs =
     let a = c .before .before .before .before .before .before .before .before .before .before .before .before .before .before .args in
     let n : blockCount (a .size) (itemTotal (a .class) (a .table .now)) ≡ (c .before .before .before .before .before .before .before .before .before .item-total .result - 1) / a .size + 1 = rw (← c .before .before .before .before .before .before .before .before .before .item-total .ensures) (some-blocks (a .size) (c .before .before .before .before .before .before .before .before .before .item-total .result) (omega arith)) in
     omega (arith, n, c .before .before .before .before .before .before .before .before .before .before .before .before .before .before .pre .1 .1 .0, c .before .before .before .before .before .before .before .loop .inv .2)
@@ -82,12 +82,11 @@ loop-less : tie.Need-loop-less Inv-loop μ-loop
 loop-less c = omega arith
 
 loop-again : tie.Need-loop-again Inv-loop μ-loop
-loop-again c = 
+loop-again c =
     let a = c .before .before .before .before .before .before .before .before .before .before .before .before .before .before .before .before .before .before .args in
     let loop = c .before .before .before .before .before .before .before .before .before .before .before .loop in
     let span = c .before .before .before .before .before .before .before .before .before .cover-span in
-    let n : blockCount (a .size) (itemTotal (a .class) (a .table .now)) ≡ (c .before .before .before .before .before .before .before .before .before .before .before .before .before .item-total .result - 1) / a .size + 1 = rw (← c .before .before .before .before .before .before .before .before .before .before .before .before .before .item-total .ensures) (some-blocks (a .size) (c .before .before .before .before .before .before .before .before .before .before .before .before .before .item-total .result) (omega arith)) in
-    (
+    let n : blockCount (a .size) (itemTotal (a .class) (a .table .now)) ≡ (c .before .before .before .before .before .before .before .before .before .before .before .before .before .item-total .result - 1) / a .size + 1 = rw (← c .before .before .before .before .before .before .before .before .before .before .before .before .before .item-total .ensures) (some-blocks (a .size) (c .before .before .before .before .before .before .before .before .before .before .before .before .before .item-total .result) (omega arith)) in (
       omega (arith, loop .inv .0),
       omega arith,
       c .before .before .before .put-box .kept .0 ∙ loop .inv .2,
@@ -105,12 +104,11 @@ same-length-2 : tie.Need-same-length-2 Inv-loop μ-loop
 same-length-2 c = c .before .loop .inv .3
 
 returns-2 : tie.Need-returns-2 Inv-loop μ-loop
-returns-2 c = 
+returns-2 c =
     let a = c .before .before .before .before .before .before .before .before .args in
     let loop = c .before .loop in
     let n : blockCount (a .size) (itemTotal (a .class) (a .table .now)) ≡ (c .before .before .before .item-total .result - 1) / a .size + 1 = rw (← c .before .before .before .item-total .ensures) (some-blocks (a .size) (c .before .before .before .item-total .result) (omega arith)) in
-    let e : loop .k ≡ a .rows + ((c .before .before .before .item-total .result - 1) / a .size + 1) = omega (arith, loop .inv .1) in
-    (
+    let e : loop .k ≡ a .rows + ((c .before .before .before .item-total .result - 1) / a .size + 1) = omega (arith, loop .inv .1) in (
       omega (arith, n),
       rw (← e, ← first-items (a .class) (a .table .now) (a .floats .now))
           (adds-end (loop .inv .5 ∙ first-dropped (a .class) (a .table .now) (a .floats .now) ((loop .k - a .rows) * a .size) ∙ none-left (a .class) (a .table .now) (a .floats .now) (a .size) (loop .k - a .rows) (c .before .before .before .before .before .before .before .before .pre .1 .0) (omega (arith, n, e))) (loop .inv .6)),

@@ -30,8 +30,7 @@ same-length-2 c = search needs
 
 returns : tie.Need-returns
 returns c = let args = c .before .before .before .before .before .before .before .before .before .before .before .before .before .before .args in
-    let pre = c .before .before .before .before .before .before .before .before .before .before .before .before .before .before .pre in
-    (
+    let pre = c .before .before .before .before .before .before .before .before .before .before .before .before .before .before .pre in (
       refl,
       rw (c .before .before .before .before .before .store .ensures .0, c .before .before .before .before .before .store .ensures .1)
           (lists-more (args .floats .now) (args .boxes .now) (args .places .now) (args .list) (c .before .before .before .before .before .before .before .before .box-of .result) (c .unite .result) (args .p) (pre .1 .1 .0) (pre .1 .1 .1)
