@@ -48,7 +48,7 @@ place-at-requires : tie.Need-place-at-requires Inv-loop μ-loop
 place-at-requires c κs = omega (arith, c .before .before .before .before .before .before .before .before .before .before .before .before .pre .1 .1 .places-room)
 
 with-span-requires : tie.Need-with-span-requires Inv-loop μ-loop
-with-span-requires c κs = 
+with-span-requires c κs =
     let here = c .before .before .before .before .before .before .before .before .before .before .before .before .before .pre .1 .1 .rows .blocks (c .before .before .before .before .before .before .before .before .loop .k) (c .before .before .before .before .before .before .before .loop-test .taken) in
     (c .before .before .before .before .before .before .before .before .loop .inv .1, (c .before .before .before .before .before .before .before .before .before .before .before .before .before .pre .1 .0, rw (c .place-at .ensures) (here .room)))
 
@@ -59,7 +59,7 @@ loop-less : tie.Need-loop-less Inv-loop μ-loop
 loop-less c = omega arith
 
 loop-again : tie.Need-loop-again Inv-loop μ-loop
-loop-again c = 
+loop-again c =
     let args = c .before .before .before .before .before .before .before .before .before .before .before .before .args in
     let size = args .sweep .size in
     let a = itemOf (args .a) in
@@ -71,15 +71,14 @@ loop-again c =
     ⊎-elim
     (λ w. rw (w .1) (record { same = block-passed size (args .table .now) (args .floats .now) (placeAt (args .places .now) (loop .k)) a (c .before .before .before .before .before .before .before .before .before .before .before .shared-slice-known .given) fitting _ (c .before .before .before .box-at .ensures ∙ here .cover) _ (rw (← c .before .before .before .before .before .before .before .before .before .before .before .before .pre .1 .0, ← c .before .before .min-dist-sq .ensures, ← c .before .no-closer .ensures) (w .0 .taken)); sound = loop .inv .1 }))
     (λ w. rw (w .3) (rw (w .1 .ensures) at (w .2 .ensures)))
-    (c .if2 .came) in
-    (
+    (c .if2 .came) in (
       omega arith,
       turn .sound,
       rw (turn .same) (each-append a _ _ _) ∙ ap (withEach a _) (sym (blocks-next size (args .table .now) (args .floats .now) (args .places .now) (loop .k) (args .sweep .rows) (c .before .before .before .before .before .before .loop-test .taken))) ∙ loop .inv .2,
     )
 
 returns-2 : tie.Need-returns-2 Inv-loop μ-loop
-returns-2 c = 
+returns-2 c =
     let args = c .before .before .before .before .before .before .args in
     let loop = c .before .loop in
     record { same = sym (each-none _ _ _ (blocks-none (args .sweep .size) (args .table .now) (args .floats .now) (args .places .now) (loop .k) (args .sweep .rows) (omega arith))) ∙ loop .inv .2; sound = loop .inv .1 }
