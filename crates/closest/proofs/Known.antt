@@ -122,21 +122,22 @@ module _ (a : Item) (floats : List Float) (places : List ℕ) (count : ℕ) wher
 
 -- ---- an item that follows the one before it
 module _ (places : List ℕ) (k : ℕ) where
-  pub follows-by : getD places (numbersPerPlace * k) 0 ≡ getD places (numbersPerPlace * k - 3) 0 → getD places (numbersPerPlace * k + 1) 0 ≡ getD places (numbersPerPlace * k - 2) 0
-      → 0 < getD places (numbersPerPlace * k + 2) 0 → getD places (numbersPerPlace * k + 2) 0 - 1 ≡ getD places (numbersPerPlace * k - 1) 0 → Follows places k
+  pub follows-by : getD places (numbersPerPlace * k) 0 ≡ getD places (numbersPerPlace * k - 4) 0 → getD places (numbersPerPlace * k + 2) 0 ≡ getD places (numbersPerPlace * k - 2) 0
+      → 0 < getD places (numbersPerPlace * k + 3) 0 → getD places (numbersPerPlace * k + 3) 0 - 1 ≡ getD places (numbersPerPlace * k - 1) 0 → Follows places k
   unfolding placeAt
   follows-by same-class same-at after next i e =
-      let e0 : numbersPerPlace * k - 3 ≡ numbersPerPlace * i = omega arith in
-      let e1 : numbersPerPlace * k - 2 ≡ numbersPerPlace * i + 1 = omega arith in
-      let e2 : numbersPerPlace * k - 1 ≡ numbersPerPlace * i + 2 = omega arith in
-      let j-is : getD places (numbersPerPlace * k + 2) 0 ≡ getD places (numbersPerPlace * i + 2) 0 + 1 = rw (← e2) (omega arith) in
-      rw (same-class, same-at, j-is, e0, e1)
+      let e0 : numbersPerPlace * k - 4 ≡ numbersPerPlace * i = omega arith in
+      let e2 : numbersPerPlace * k - 2 ≡ numbersPerPlace * i + 2 = omega arith in
+      let e3 : numbersPerPlace * k - 1 ≡ numbersPerPlace * i + 3 = omega arith in
+      let j-is : getD places (numbersPerPlace * k + 3) 0 ≡ getD places (numbersPerPlace * i + 3) 0 + 1 = rw (← e3) (omega arith) in
+      (rw (same-class, e0), rw (same-at, e2), j-is)
 
   pub again-settled : (a : Item) (best : Option Witness) (floats : List Float) → MeasuredBefore a best k floats places → Follows places k → AllSettled best (secondBefore a (listedItem floats places k))
   again-settled a best floats m f =
       let e : k - 1 + 1 ≡ k = omega (arith, m .0) in
       let p = placeAt places (k - 1) in
-      rw (f (k - 1) e, ← second-turn a (p .class) floats (p .at) (p .j)) (m .1 (k - 1) e)
+      let g = f (k - 1) e in
+      rw (g .0, g .1, g .2, ← second-turn a (p .class) floats (p .at) (p .j)) (m .1 (k - 1) e)
 
 -- ---- nothing is known
 pub none-known : (n k : ℕ) → getD (replicate n false) k false ≡ false

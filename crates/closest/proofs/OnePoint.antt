@@ -19,7 +19,7 @@ use Rattle.items.specs.Items.{Item, point, pointsOf, itemsOfKind, itemsOf, boxO
 use Rattle.extremes.specs.Sweeps.{skipping}
 use Rattle.items.specs.Closest.{withEach, sweepOf, closestWithin, closestOf}
 use Rattle.extremes.specs.ClosestSweep.{noCloser}
-use Rattle.closest.specs.Spans.{isOnePoint}
+use Rattle.closest.specs.Inner.{isOnePoint}
 
 both : (a b : Bool) → (a && b) ≡ true → (a ≡ true) × (b ≡ true)
 both true b e = (refl, e)

@@ -1,14 +1,18 @@
--- The items of a side, listed or planned. Serves inner contracts. Definitions only.
-use Prim.Native.Nat.{ℕ, _*_, _<_, _≤_}
+-- The index of a side: rows of single items, or of blocks. Serves inner contracts. Definitions only.
+use Prim.Native.Nat.{ℕ, _*_, _≤_}
 use mathlib.Core.Path.{_≡_}
+use mathlib.Core.Bool.{cond}
 use mathlib.Core.List.{List}
+use lib.Dec.{eqb}
 use lib.ListN.{length}
 use lib.Ieee.{Float}
 use Rattle.parts.specs.Stored.{storedRuns}
 use Rattle.items.specs.Items.{itemsOf}
+use Rattle.items.specs.declared.Class.{Class}
 use Rattle.listing.specs.Rows.{floatsPerBox, numbersPerPlace}
 use Rattle.listing.specs.Listing.{mostListed, listedFrom, Entries}
-use Rattle.closest.specs.Blocks.{Plans, numbersPerPart, planAt}
+use Rattle.blocks.specs.Blocks.{Cut}
+use Rattle.closest.specs.declared.Sweep.{Sweep}
 
 -- so many items have their boxes and places in the rows
 pub record HasEntries (count : ℕ) (floats boxes : List Float) (places : List ℕ) : Type 0 where
@@ -17,9 +21,16 @@ pub record HasEntries (count : ℕ) (floats boxes : List Float) (places : List �
   pub places-room : numbersPerPlace * count ≤ length places
   pub entries : Entries count floats boxes places
 
--- so many items are listed, and are all; or if that is 0, the numbers are a plan
-pub record Indexed (listed : ℕ) (numbers : List ℕ) (table : List ℕ) (floats boxes : List Float) (starts : List ℕ) : Type 0 where
-  pub entries : 0 < listed → HasEntries listed floats boxes starts
-  pub items : 0 < listed → listedFrom floats starts 0 listed ≡ itemsOf (storedRuns table floats)
-  pub room : listed ≡ 0 → numbersPerPart * 3 ≤ length numbers
-  pub planned : listed ≡ 0 → Plans (planAt numbers) table floats boxes starts
+-- all items of the side are in the rows, in order: each in a row with its own box, or else so many in a row, with a box that covers them
+pub record Indexed (size rows : ℕ) (table : List ℕ) (floats boxes : List Float) (places : List ℕ) : Type 0 where
+  pub entries : size ≡ 1 → HasEntries rows floats boxes places
+  pub items : size ≡ 1 → listedFrom floats places 0 rows ≡ itemsOf (storedRuns table floats)
+  pub cut : (size ≡ 1 → ⊥) → Cut rows size (itemsOf (storedRuns table floats)) table floats boxes places
+
+-- how many rows are of single items
+abbrev pub listedRows : ℕ → ℕ → ℕ
+listedRows size rows = cond (eqb size 1) rows 0
+
+-- the sweep of another class
+abbrev pub ofClass : Sweep → Class → Sweep
+ofClass sweep class = record { class = class; stop = sweep .stop; all = sweep .all; rows = sweep .rows; size = sweep .size }

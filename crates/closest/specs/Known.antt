@@ -10,7 +10,6 @@ use Rattle.primitives.specs.declared.Witness.{Witness}
 use Rattle.items.specs.Items.{Item}
 use Rattle.measures.specs.InnerOffers.{AllSettled}
 use Rattle.items.specs.InnerRepeats.{secondAfter}
-use Rattle.listing.specs.declared.Place.{Place}
 use Rattle.listing.specs.Rows.{placeAt}
 use Rattle.listing.specs.Listing.{listedItem}
 
@@ -22,10 +21,7 @@ Known f best known count floats places = (k : ℕ) → k < count → getD known 
 abbrev pub MeasuredBefore : Item → Option Witness → ℕ → List Float → List ℕ → Type 0
 MeasuredBefore a best k floats places = (0 < k) × ((i : ℕ) → i + 1 ≡ k → AllSettled best (secondAfter a (listedItem floats places i)))
 
--- the place of the next item of the run
-abbrev pub nextPlace : Place → Place
-nextPlace p = record { class = p .class; at = p .at; j = p .j + 1 }
-
 -- the item at the k-th place is the next of its run after the one before it
 abbrev pub Follows : List ℕ → ℕ → Type 0
-Follows places k = (i : ℕ) → i + 1 ≡ k → placeAt places k ≡ nextPlace (placeAt places i)
+Follows places k =
+    (i : ℕ) → i + 1 ≡ k → (placeAt places k .class ≡ placeAt places i .class) × (placeAt places k .at ≡ placeAt places i .at) × (placeAt places k .j ≡ placeAt places i .j + 1)

@@ -56,13 +56,11 @@ fn offer(best: Best, p: Point, q: Point, s: f64) -> Best
     let longest = best.witness;
     if longest.d < 0.0 {} else {
         if w.d > longest.d {} else {
-            if w.d == longest.d {
-                return Best {
-                    sum: s,
-                    witness: longest,
-                };
-            }
-            return best;
+            let sum = if w.d == longest.d { s } else { best.sum };
+            return Best {
+                sum,
+                witness: longest,
+            };
         }
     }
     Best { sum: s, witness: w }

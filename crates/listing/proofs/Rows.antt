@@ -52,14 +52,14 @@ module _ (places : List ℕ) (k : ℕ) (p : Place) where
   unfolding placeAt
   place-put h =
       let e : numbersPerPlace * k + 0 ≡ numbersPerPlace * k = omega arith in
-      let at : (i : ℕ) → i < 3 → getD places′ (numbersPerPlace * k + i) 0 ≡ getD (placeNumbers p) i 0 = λ i g. getD-sets (placeNumbers p) places (numbersPerPlace * k) i 0 (omega arith) g in
-      rw (rw e at (at 0 (omega arith)), at 1 (omega arith), at 2 (omega arith), code-back (p .class))
+      let at : (i : ℕ) → i < 4 → getD places′ (numbersPerPlace * k + i) 0 ≡ getD (placeNumbers p) i 0 = λ i g. getD-sets (placeNumbers p) places (numbersPerPlace * k) i 0 (omega arith) g in
+      rw (rw e at (at 0 (omega arith)), at 1 (omega arith), at 2 (omega arith), at 3 (omega arith), code-back (p .class))
 
   pub place-kept : (m : ℕ) → m < k → placeAt places′ m ≡ placeAt places m
   unfolding placeAt
   place-kept m h =
       let at : (i : ℕ) → i < numbersPerPlace * k → getD places′ i 0 ≡ getD places i 0 = λ i g. sets-before (placeNumbers p) places (numbersPerPlace * k) i 0 g in
-      rw (at (numbersPerPlace * m) (omega arith), at (numbersPerPlace * m + 1) (omega arith), at (numbersPerPlace * m + 2) (omega arith))
+      rw (at (numbersPerPlace * m) (omega arith), at (numbersPerPlace * m + 1) (omega arith), at (numbersPerPlace * m + 2) (omega arith), at (numbersPerPlace * m + 3) (omega arith))
 
 -- ---- the points of an item
 -- item j is an item of the run that ends with its points

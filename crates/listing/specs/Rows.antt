@@ -34,7 +34,7 @@ boxAt boxes k =
 -- ---- places
 
 abbrev pub numbersPerPlace : ℕ
-numbersPerPlace = 3
+numbersPerPlace = 4
 
 -- a class as a number
 abbrev pub codeOf : Class → ℕ
@@ -47,13 +47,14 @@ classOfCode code = cond (eqb code 0) Points (cond (eqb code 1) Segments Triangle
 
 -- the numbers of a place
 abbrev pub placeNumbers : Place → List ℕ
-placeNumbers p = codeOf (p .class) ∷ p .at ∷ p .j ∷ []
+placeNumbers p = codeOf (p .class) ∷ p .r ∷ p .at ∷ p .j ∷ []
 
 -- the k-th place
 unfoldable pub placeAt : List ℕ → ℕ → Place
 placeAt places k =
     record {
       class = classOfCode (getD places (numbersPerPlace * k) 0);
-      at = getD places (numbersPerPlace * k + 1) 0;
-      j = getD places (numbersPerPlace * k + 2) 0;
+      r = getD places (numbersPerPlace * k + 1) 0;
+      at = getD places (numbersPerPlace * k + 2) 0;
+      j = getD places (numbersPerPlace * k + 3) 0;
     }

@@ -14,7 +14,7 @@ ghost use Rattle.workspace.specs.Workspace.{floatsPerCoordinate};
 ghost use Rattle.primitives.specs.Boxes.{unionOf};
 ghost use Rattle.parts.specs.Stored.{pointsFrom, storedRuns, pointCount, Laid};
 ghost use Rattle.items.specs.Items.{itemsOf};
-ghost use Rattle.items.specs.Inner.{itemOf, isOfClass, itemsBy, classItems, itemCount, itemAt};
+ghost use Rattle.items.specs.Inner.{itemOf, isOfClass, itemsBy, classItems, itemCount};
 ghost use Rattle.listing.specs.Rows.{floatsPerBox, boxFloats, boxAt, numbersPerPlace, codeOf, classOfCode, placeNumbers, placeAt};
 ghost use Rattle.listing.specs.Listing.{mostListed, pointsIn, itemPlaced, RoomAt, Lists};
 ghost use Rattle.listing.specs.Inner.{withBox, withPlace, Adds};
@@ -22,9 +22,10 @@ ghost use Rattle.listing.specs.Inner.{withBox, withPlace, Adds};
 // At most so many items are listed with box and place.
 pub const LISTED: usize = 16;
 
-// Item j of a run of the class whose points start at place at.
+// Item j of run r, which is of the class and whose points start at place at.
 pub struct Place {
     pub class: Class,
+    pub r: usize,
     pub at: usize,
     pub j: usize,
 }
@@ -105,11 +106,12 @@ pub fn place_at(places: &[usize], k: usize) -> Place
     requires { ⌜ numbersPerPlace * (k + 1) ≤ length (now places) ⌝ }
     ensures { λ p. ⌜ p ≡ placeAt (now (places .entry)) k ⌝ }
 {
-    let i = 3 * k;
+    let i = 4 * k;
     Place {
         class: class_of(places[i]),
-        at: places[i + 1],
-        j: places[i + 2],
+        r: places[i + 1],
+        at: places[i + 2],
+        j: places[i + 3],
     }
 }
 
@@ -119,10 +121,11 @@ pub fn put_place(places: &mut [usize], k: usize, p: Place)
     ensures { λ _. ⌜ now (places .exit) ≡ sets (now (places .entry)) (numbersPerPlace * k) (placeNumbers p) ⌝ }
 {
     let class = p.class;
-    let i = 3 * k;
+    let i = 4 * k;
     places[i] = code_of(class);
-    places[i + 1] = p.at;
-    places[i + 2] = p.j;
+    places[i + 1] = p.r;
+    places[i + 2] = p.at;
+    places[i + 3] = p.j;
 }
 
 // The item at a place.
@@ -160,81 +163,82 @@ fn store(boxes: &mut [f64], places: &mut [usize], k: usize, b: Aabb, p: Place)
     put_place(places, k, p);
 }
 
-// A listing with item j of a run of n points more.
+// A listing with the item at a place of a run of n points more.
 fn list_item(
     list: Listing,
-    class: Class,
-    floats: &[f64],
-    at: usize,
+    p: Place,
     n: usize,
-    j: usize,
+    floats: &[f64],
     boxes: &mut [f64],
     places: &mut [usize],
 ) -> Listing
-    requires { ⌜ (floatsPerCoordinate * (at + n) ≤ length (now floats)) × (j < itemCount class n) ⌝ }
+    requires { ⌜ (floatsPerCoordinate * (p .at + n) ≤ length (now floats)) × (p .j < itemCount (p .class) n) ⌝ }
     requires { ⌜ list .count < length (now floats) ⌝ }
     requires { ⌜ floatsPerBox * mostListed ≤ length (now boxes) ⌝ }
     requires { ⌜ numbersPerPlace * mostListed ≤ length (now places) ⌝ }
     ensures { λ r. ⌜ r .count ≡ list .count + 1 ⌝ }
-    ensures { λ r. ⌜ Adds (itemAt class (now (floats .entry)) at j ∷ []) (now (floats .entry)) list (now (boxes .entry)) (now (places .entry)) r (now (boxes .exit)) (now (places .exit)) ⌝ }
+    ensures { λ r. ⌜ Adds (itemPlaced (now (floats .entry)) p ∷ []) (now (floats .entry)) list (now (boxes .entry)) (now (places .entry)) r (now (boxes .exit)) (now (places .exit)) ⌝ }
 {
+    let class = p.class;
     let all = list.all;
     let k = list.count;
-    let b = items::box_of(items::item_at(class, floats, at, n, j));
-    store(boxes, places, k, b, Place { class, at, j });
+    let b = items::box_of(items::item_at(class, floats, p.at, n, p.j));
+    store(boxes, places, k, b, p);
     Listing {
         count: k + 1,
         all: unite(k, all, b),
     }
 }
 
-// A listing with the items of a run of n points more.
+// A listing with the items of a run of n points more, whose first item is at that place.
 fn list_items(
     list: Listing,
-    class: Class,
-    floats: &[f64],
-    at: usize,
+    first: Place,
     n: usize,
+    floats: &[f64],
     boxes: &mut [f64],
     places: &mut [usize],
 ) -> Listing
-    requires { ⌜ floatsPerCoordinate * (at + n) ≤ length (now floats) ⌝ }
+    requires { ⌜ floatsPerCoordinate * (first .at + n) ≤ length (now floats) ⌝ }
     requires { ⌜ list .count + n ≤ length (now floats) ⌝ }
     requires { ⌜ floatsPerBox * mostListed ≤ length (now boxes) ⌝ }
     requires { ⌜ numbersPerPlace * mostListed ≤ length (now places) ⌝ }
     ensures { λ r. ⌜ r .count ≤ list .count + n ⌝ }
-    ensures { λ r. ⌜ Adds (itemsBy class (pointsFrom (now (floats .entry)) at n)) (now (floats .entry)) list (now (boxes .entry)) (now (places .entry)) r (now (boxes .exit)) (now (places .exit)) ⌝ }
+    ensures { λ r. ⌜ Adds (itemsBy (first .class) (pointsFrom (now (floats .entry)) (first .at) n)) (now (floats .entry)) list (now (boxes .entry)) (now (places .entry)) r (now (boxes .exit)) (now (places .exit)) ⌝ }
 {
+    let class = first.class;
+    let r = first.r;
+    let at = first.at;
     let mut seen = list;
     let count = items::item_count(class, n);
     let mut j = 0;
     while j < count {
-        seen = list_item(seen, class, floats, at, n, j, boxes, places);
+        seen = list_item(seen, Place { class, r, at, j }, n, floats, boxes, places);
         j += 1;
     }
     seen
 }
 
-// A listing with the items of a run of n points of the kind more, if it is of the class.
+// A listing with the items of a run of n points of the kind more, if it is of the class of its first item.
 fn list_run(
     list: Listing,
-    class: Class,
     kind: u32,
-    floats: &[f64],
-    at: usize,
+    first: Place,
     n: usize,
+    floats: &[f64],
     boxes: &mut [f64],
     places: &mut [usize],
 ) -> Listing
-    requires { ⌜ floatsPerCoordinate * (at + n) ≤ length (now floats) ⌝ }
+    requires { ⌜ floatsPerCoordinate * (first .at + n) ≤ length (now floats) ⌝ }
     requires { ⌜ list .count + n ≤ length (now floats) ⌝ }
     requires { ⌜ floatsPerBox * mostListed ≤ length (now boxes) ⌝ }
     requires { ⌜ numbersPerPlace * mostListed ≤ length (now places) ⌝ }
     ensures { λ r. ⌜ r .count ≤ list .count + n ⌝ }
-    ensures { λ r. ⌜ Adds (cond (isOfClass class kind) (itemsBy class (pointsFrom (now (floats .entry)) at n)) []) (now (floats .entry)) list (now (boxes .entry)) (now (places .entry)) r (now (boxes .exit)) (now (places .exit)) ⌝ }
+    ensures { λ r. ⌜ Adds (cond (isOfClass (first .class) kind) (itemsBy (first .class) (pointsFrom (now (floats .entry)) (first .at) n)) []) (now (floats .entry)) list (now (boxes .entry)) (now (places .entry)) r (now (boxes .exit)) (now (places .exit)) ⌝ }
 {
+    let class = first.class;
     if items::is_of_class(class, kind) {
-        return list_items(list, class, floats, at, n, boxes, places);
+        return list_items(list, first, n, floats, boxes, places);
     }
     list
 }
@@ -262,7 +266,8 @@ fn list_class(
     while r < count {
         let n = parts::count_at(table, r);
         let kind = parts::kind_at(table, r);
-        seen = list_run(seen, class, kind, floats, at, n, boxes, places);
+        let first = Place { class, r, at, j: 0 };
+        seen = list_run(seen, kind, first, n, floats, boxes, places);
         at += n;
         r += 1;
     }

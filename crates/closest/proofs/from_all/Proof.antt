@@ -1,8 +1,8 @@
 -- `closest::from_all` meets its contract. Assumes nothing.
 use mathlib.Core.Path.{refl}
 use native.Mathlib.Omega.{arith}
-use borrow.Author.Needs.{needs}
 use Rattle.closest.proofs.Indexed.{lists-indexed, listed-some, listed-nothing}
+use borrow.Author.Needs.{needs}
 use Rattle.closest.proofs.from_all.Statement.{statement}
 use Rattle.closest.proofs.from_all.Tie as tie
 
@@ -21,23 +21,17 @@ none-yet-requires c κs = search needs
 returns : tie.Need-returns
 returns c = rw (listed-nothing _ _ _ _ _ (c .before .before .before .before .before .list-all .ensures) _ (c .before .if1 .taken)) (c .none-yet .ensures)
 
-none-yet-requires-2 : tie.Need-none-yet-requires-2
-none-yet-requires-2 c κs = search needs
+slice-aggregate-sweep-classes : tie.Need-slice-aggregate-sweep-classes
+slice-aggregate-sweep-classes c = search needs
 
-slice-aggregate-sweep : tie.Need-slice-aggregate-sweep
-slice-aggregate-sweep c = search needs
+slice-aggregate-sweep-classes-2 : tie.Need-slice-aggregate-sweep-classes-2
+slice-aggregate-sweep-classes-2 c = search needs
 
-slice-aggregate-sweep-2 : tie.Need-slice-aggregate-sweep-2
-slice-aggregate-sweep-2 c = search needs
-
-slice-aggregate-sweep-3 : tie.Need-slice-aggregate-sweep-3
-slice-aggregate-sweep-3 c = search needs
-
-sweep-requires : tie.Need-sweep-requires
-sweep-requires c κs = (c .before .before .before .none-yet2 .ensures .sound, (c .before .before .before .before .before .before .before .before .before .before .before .before .before .before .before .before .pre .0, (c .before .before .before .before .before .before .before .before .before .before .before .before .before .before .before .before .pre .1, lists-indexed _ _ _ _ _ (c .before .before .before .before .before .before .before .before .before .list-all .ensures) _ _ refl (omega arith) (omega arith) (search needs) (search needs))))
+sweep-classes-requires : tie.Need-sweep-classes-requires
+sweep-classes-requires c κs = (refl, (c .before .before .before .before .before .before .before .before .before .before .before .before .before .before .pre .0, lists-indexed _ _ _ _ _ (c .before .before .before .before .before .before .before .list-all .ensures) _ refl (omega arith) (search needs) (search needs)))
 
 returns-2 : tie.Need-returns-2
-returns-2 c = rw (listed-some _ _ _ _ _ (c .before .before .before .before .before .before .before .before .before .before .list-all .ensures) _ (omega arith), ← c .before .before .before .before .none-yet2 .ensures .same) (c .sweep .ensures)
+returns-2 c = rw (listed-some _ _ _ _ _ (c .before .before .before .before .before .before .before .before .list-all .ensures) _ (omega arith)) (c .sweep-classes .ensures)
 
 sweep-many-requires : tie.Need-sweep-many-requires
 sweep-many-requires c κs = search needs
@@ -54,11 +48,9 @@ from-all-spec =
     list-all-requires
     none-yet-requires
     returns
-    none-yet-requires-2
-    slice-aggregate-sweep
-    slice-aggregate-sweep-2
-    slice-aggregate-sweep-3
-    sweep-requires
+    slice-aggregate-sweep-classes
+    slice-aggregate-sweep-classes-2
+    sweep-classes-requires
     returns-2
     sweep-many-requires
     returns-3)

@@ -13,6 +13,7 @@ use Rattle.extremes.specs.InnerBest.{bestOf, Sound}
 use Rattle.items.specs.Items.{itemsOf}
 use Rattle.items.specs.InnerRepeats.{firstBefore}
 use Rattle.items.specs.Closest.{sweepOf}
+use Rattle.closest.specs.Indexed.{listedRows}
 use Rattle.closest.specs.Known.{Known}
 use Rattle.closest.proofs.Folds.{sweep-next, sweep-lasts}
 use Rattle.closest.proofs.Known.{none-known}
@@ -20,19 +21,19 @@ use Rattle.closest.proofs.from_run.Statement.{statement}
 use Rattle.closest.proofs.from_run.Tie as tie
 
 abbrev Inv-loop : tie.InvT-loop
-Inv-loop stop class floats1 at n floats2 table2 all listed numbers boxes starts seen₀ known₀ count j₀ seen known j = (j ≤ itemCount class n)
+Inv-loop sweep floats1 floats2 table2 boxes places class stop at n seen₀ known₀ count j₀ seen known j = (j ≤ itemCount class n)
     × Sound seen
-    × (sweepOf all (itemsOf (storedRuns table2 floats2)) (bestOf seen) (itemsLeft class floats1 at n j) ≡ sweepOf all (itemsOf (storedRuns table2 floats2)) (bestOf seen₀) (itemsBy class (pointsFrom floats1 at n)))
-    × Known (firstBefore (itemAt class floats1 at j)) (bestOf seen) known listed floats2 starts
+    × (sweepOf (sweep .all) (itemsOf (storedRuns table2 floats2)) (bestOf seen) (itemsLeft class floats1 at n j) ≡ sweepOf (sweep .all) (itemsOf (storedRuns table2 floats2)) (bestOf seen₀) (itemsBy class (pointsFrom floats1 at n)))
+    × Known (firstBefore (itemAt class floats1 at j)) (bestOf seen) known (listedRows (sweep .size) (sweep .rows)) floats2 places
 
 abbrev μ-loop : tie.MeasureT-loop
-μ-loop stop class floats1 at n floats2 table2 all listed numbers boxes starts seen₀ known₀ count j₀ seen known j = itemCount class n - j
+μ-loop sweep floats1 floats2 table2 boxes places class stop at n seen₀ known₀ count j₀ seen known j = itemCount class n - j
 
 item-count-requires : tie.Need-item-count-requires Inv-loop μ-loop
 item-count-requires c κs = search needs
 
 loop-holds : tie.Need-loop-holds Inv-loop μ-loop
-loop-holds c = (omega arith, c .before .before .before .before .before .before .before .pre .0, ap (sweepOf _ _ _) (left-start _ _ _ _), λ k h e. absurd (false≢true (sym (none-known 16 k) ∙ e)))
+loop-holds c = (omega arith, c .before .before .before .before .before .before .pre .0, ap (sweepOf _ _ _) (left-start _ _ _ _), λ k h e. absurd (false≢true (sym (none-known 16 k) ∙ e)))
 
 ends-requires : tie.Need-ends-requires Inv-loop μ-loop
 ends-requires c κs = search needs
@@ -41,10 +42,10 @@ returns : tie.Need-returns Inv-loop μ-loop
 returns c = record { same = sym (sweep-lasts _ _ _ (c .before .ends .ensures (c .if1 .taken)) _) ∙ c .before .before .before .loop .inv .2; sound = c .before .before .before .loop .inv .1 }
 
 item-at-requires : tie.Need-item-at-requires Inv-loop μ-loop
-item-at-requires c κs = (c .before .before .before .before .before .before .before .before .before .before .before .pre .1 .0, omega (arith, c .before .before .before .before .item-count .ensures))
+item-at-requires c κs = (c .before .before .before .before .before .before .before .before .before .before .pre .1 .0, omega (arith, c .before .before .before .before .item-count .ensures))
 
 with-all-requires : tie.Need-with-all-requires Inv-loop μ-loop
-with-all-requires c κs = (c .before .before .before .before .before .loop .inv .1, (c .before .before .before .before .before .before .before .before .before .before .before .before .before .pre .1 .1 .0, (c .before .before .before .before .before .before .before .before .before .before .before .before .before .pre .1 .1 .1, rw (c .before .item-at .ensures) (c .before .before .before .before .before .loop .inv .3))))
+with-all-requires c κs = (c .before .before .before .before .before .loop .inv .1, (c .before .before .before .before .before .before .before .before .before .before .before .before .pre .1 .1, rw (c .before .item-at .ensures) (c .before .before .before .before .before .loop .inv .3)))
 
 add-j : tie.Need-add-j Inv-loop μ-loop
 add-j c = omega (arith, c .before .before .before .before .before .before .before .item-count .ensures)
@@ -57,7 +58,7 @@ loop-again c = (
   omega (arith, c .before .before .before .before .before .before .before .item-count .ensures),
   c .with-all .ensures .0 .sound,
   turn-item _ _ _ _ (sweepOf _ _) _ (omega (arith, c .before .before .before .before .before .before .before .item-count .ensures)) (c .before .before .item-at .ensures) (sweep-next _ _ _ _ _ (c .with-all .ensures .0 .same)) ∙ c .before .before .before .before .before .before .loop .inv .2,
-  λ k h e. rw (← first-turn (c .before .before .before .before .before .before .before .before .before .before .before .before .before .before .args .class) (c .before .before .before .before .before .before .before .before .before .before .before .before .before .before .args .floats1 .now) (c .before .before .before .before .before .before .before .before .before .before .before .before .before .before .args .at) (c .before .before .before .before .before .before .loop .j) _, ← c .before .before .item-at .ensures) (c .with-all .ensures .1 k h e),
+  λ k h e. rw (← first-turn (c .before .before .before .before .before .before .before .before .before .before .before .before .before .args .sweep .class) (c .before .before .before .before .before .before .before .before .before .before .before .before .before .args .floats1 .now) (c .before .before .before .before .before .before .before .before .before .before .before .before .before .args .run .at) (c .before .before .before .before .before .before .loop .j) _, ← c .before .before .item-at .ensures) (c .with-all .ensures .1 k h e),
 )
 
 returns-2 : tie.Need-returns-2 Inv-loop μ-loop

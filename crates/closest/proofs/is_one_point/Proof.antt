@@ -2,7 +2,7 @@
 use native.Mathlib.Omega.{arith}
 use borrow.Author.Needs.{needs}
 use borrow.Author.Tests.{ne-eqb}
-use Rattle.closest.specs.Spans.{isOnePoint}
+use Rattle.closest.specs.Inner.{isOnePoint}
 use Rattle.closest.proofs.is_one_point.Statement.{statement}
 use Rattle.closest.proofs.is_one_point.Tie as tie
 

@@ -21,16 +21,16 @@ use Rattle.closest.proofs.with_list.Statement.{statement}
 use Rattle.closest.proofs.with_list.Tie as tie
 
 abbrev Inv-loop : tie.InvT-loop
-Inv-loop stop a a-box floats count boxes places known₀ seen₀ measured₀ k₀ known seen measured k = (k ≤ count)
+Inv-loop a a-box floats boxes places known₀ stop count seen₀ measured₀ k₀ known seen measured k = (k ≤ count)
     × Sound seen
     × (withEach (itemOf a) (bestOf seen) (listedFrom floats places k (count - k)) ≡ withEach (itemOf a) (bestOf seen₀) (listedFrom floats places 0 count))
     × Walked (itemOf a) floats places count (bestOf seen) known measured k
 
 abbrev μ-loop : tie.MeasureT-loop
-μ-loop stop a a-box floats count boxes places known₀ seen₀ measured₀ k₀ known seen measured k = count - k
+μ-loop a a-box floats boxes places known₀ stop count seen₀ measured₀ k₀ known seen measured k = count - k
 
 loop-holds : tie.Need-loop-holds Inv-loop μ-loop
-loop-holds c = let count = c .before .before .before .args .count in
+loop-holds c = let count = c .before .before .before .args .sweep .rows in
     let e : count - 0 ≡ count = omega arith in
     (omega arith, c .before .before .before .pre .0, rw e, walked-start _ _ _ _ _ _ (c .before .before .before .pre .1 .1 .1))
 
@@ -38,7 +38,7 @@ stops-requires : tie.Need-stops-requires Inv-loop μ-loop
 stops-requires c κs = search needs
 
 returns : tie.Need-returns Inv-loop μ-loop
-returns c = let z = and-true (c .before .before .before .before .before .before .before .args .stop) _ (sym (c .before .stops .ensures) ∙ c .if1 .taken) in
+returns c = let z = and-true (c .before .before .before .before .before .before .before .args .sweep .stop) _ (sym (c .before .stops .ensures) ∙ c .if1 .taken) in
     (record { same = sym (each-at-zero _ _ z _) ∙ c .before .before .before .loop .inv .2; sound = c .before .before .before .loop .inv .1 }, known-zero _ _ _ _ _ (c .before .before .before .loop .known) z)
 
 box-at-requires : tie.Need-box-at-requires Inv-loop μ-loop
@@ -83,15 +83,15 @@ loop-again c = let args = c .before .before .before .before .before .before .bef
       omega arith,
       turn .sound,
       each-next a item (args .a-box) _ _ (c .before .before .before .before .before .before .before .before .before .before .before .pre .1 .0) (turn .same ∙ ap (λ f. cond f (bestOf (loop .seen)) (withItem a (bestOf (loop .seen)) item)) far-is) _
-          ∙ ap (withEach a _) (sym (listed-next floats places (loop .k) (args .count) (c .before .before .before .before .before .before .loop-test .taken)))
+          ∙ ap (withEach a _) (sym (listed-next floats places (loop .k) (args .sweep .rows) (c .before .before .before .before .before .before .loop-test .taken)))
           ∙ loop .inv .2,
-      walked-next a floats places (args .count) (c .before .no-closer .result) _ (not-true _) (bestOf (loop .seen)) _ (loop .known) (loop .measured) (loop .k) (sound-fits _ (loop .inv .1)) (turn .same) (loop .inv .3),
+      walked-next a floats places (args .sweep .rows) (c .before .no-closer .result) _ (not-true _) (bestOf (loop .seen)) _ (loop .known) (loop .measured) (loop .k) (sound-fits _ (loop .inv .1)) (turn .same) (loop .inv .3),
     )
 
 returns-2 : tie.Need-returns-2 Inv-loop μ-loop
 returns-2 c = let args = c .before .before .before .before .before .args in
     let loop = c .before .loop in (
-      record { same = sym (each-none _ _ _ (listed-none (args .floats .now) (args .places .now) (loop .k) (args .count) (omega arith))) ∙ loop .inv .2; sound = loop .inv .1 },
+      record { same = sym (each-none _ _ _ (listed-none (args .floats .now) (args .places .now) (loop .k) (args .sweep .rows) (omega arith))) ∙ loop .inv .2; sound = loop .inv .1 },
       walked-end _ _ _ _ _ _ _ _ (omega arith) (loop .inv .3),
     )
 

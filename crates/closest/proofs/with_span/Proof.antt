@@ -18,21 +18,21 @@ use Rattle.items.specs.Inner.{itemOf, itemAt}
 use Rattle.extremes.specs.InnerBest.{bestOf, Sound, Keeps}
 use Rattle.items.specs.Closest.{withItem, withEach}
 use Rattle.extremes.specs.ClosestSweep.{noCloser}
-use Rattle.closest.specs.Spans.{itemsPast, RoomPast}
+use Rattle.blocks.specs.Spans.{itemsPast, RoomPast}
 use Rattle.closest.proofs.Folds.{and-true, each-none, each-next, each-at-zero}
 use Rattle.closest.proofs.Known.{again-next}
-use Rattle.closest.proofs.Spans.{turn-past, past-run, none-taken, end-taken, item-of-run}
+use Rattle.blocks.proofs.Spans.{turn-past, past-run, none-taken, end-taken, item-of-run}
 use Rattle.closest.proofs.with_span.Statement.{statement}
 use Rattle.closest.proofs.with_span.Tie as tie
 
 abbrev Inv-loop : tie.InvT-loop
-Inv-loop stop a a-box class floats table count runs seen₀ measured₀ left₀ r₀ at₀ j₀ seen measured left r at j = RoomPast table floats r at
+Inv-loop stop a a-box floats table count class runs seen₀ measured₀ left₀ r₀ at₀ j₀ seen measured left r at j = RoomPast table floats r at
     × Sound seen
     × (withEach (itemOf a) (bestOf seen) (take left (itemsPast class table floats r at j)) ≡ withEach (itemOf a) (bestOf seen₀) (take left₀ (itemsPast class table floats r₀ at₀ j₀)))
     × (measured ≡ true → AllSettled (bestOf seen) (secondBefore (itemOf a) (itemAt class floats at j)))
 
 abbrev μ-loop : tie.MeasureT-loop
-μ-loop stop a a-box class floats table count runs seen₀ measured₀ left₀ r₀ at₀ j₀ seen measured left r at j = left + (runCount table - r)
+μ-loop stop a a-box floats table count class runs seen₀ measured₀ left₀ r₀ at₀ j₀ seen measured left r at j = left + (runCount table - r)
 
 run-count-requires : tie.Need-run-count-requires Inv-loop μ-loop
 run-count-requires c κs = search needs
@@ -59,7 +59,7 @@ gap-to-requires : tie.Need-gap-to-requires Inv-loop μ-loop
 gap-to-requires c κs = let args = c .before .before .before .before .before .before .before .before .before .before .before .args in
     let loop = c .before .before .before .before .before .before .before .loop in
     let h : loop .r < runCount (args .table .now) = omega (arith, c .before .before .before .before .before .before .before .before .run-count .ensures) in
-    (room-run (args .table .now) (args .floats .now) (loop .r) (loop .at) _ h (c .before .before .count-at .ensures) (loop .inv .0), item-of-run (args .class) (args .table .now) (loop .r) _ (loop .j) (c .before .before .count-at .ensures) (omega (arith, c .before .items-in .ensures)))
+    (room-run (args .table .now) (args .floats .now) (loop .r) (loop .at) _ h (c .before .before .count-at .ensures) (loop .inv .0), item-of-run (args .from .class) (args .table .now) (loop .r) _ (loop .j) (c .before .before .count-at .ensures) (omega (arith, c .before .items-in .ensures)))
 
 no-closer-requires : tie.Need-no-closer-requires Inv-loop μ-loop
 no-closer-requires c κs = search needs
@@ -68,7 +68,7 @@ item-at-requires : tie.Need-item-at-requires Inv-loop μ-loop
 item-at-requires c κs = let args = c .before .before .before .before .before .before .before .before .before .before .before .before .before .before .args in
     let loop = c .before .before .before .before .before .before .before .before .before .before .loop in
     let h : loop .r < runCount (args .table .now) = omega (arith, c .before .before .before .before .before .before .before .before .before .before .before .run-count .ensures) in
-    (room-run (args .table .now) (args .floats .now) (loop .r) (loop .at) _ h (c .before .before .before .before .before .count-at .ensures) (loop .inv .0), item-of-run (args .class) (args .table .now) (loop .r) _ (loop .j) (c .before .before .before .before .before .count-at .ensures) (omega (arith, c .before .before .before .before .items-in .ensures)))
+    (room-run (args .table .now) (args .floats .now) (loop .r) (loop .at) _ h (c .before .before .before .before .before .count-at .ensures) (loop .inv .0), item-of-run (args .from .class) (args .table .now) (loop .r) _ (loop .j) (c .before .before .before .before .before .count-at .ensures) (omega (arith, c .before .before .before .before .items-in .ensures)))
 
 offer-requires : tie.Need-offer-requires Inv-loop μ-loop
 offer-requires c κs = (c .before .before .before .before .before .before .before .before .before .before .before .loop .inv .1, (λ e. absurd (false≢true e), λ e. rw (c .item-at .ensures) (c .before .before .before .before .before .before .before .before .before .before .before .loop .inv .3 e)))
@@ -88,7 +88,7 @@ loop-again c = let args = c .before .before .before .before .before .before .bef
     let loop = c .before .before .before .before .before .before .before .before .before .before .loop in
     let h : loop .r < runCount (args .table .now) = omega (arith, c .before .before .before .before .before .before .before .before .before .before .before .run-count .ensures) in
     let a = itemOf (args .a) in
-    let item = itemAt (args .class) (args .floats .now) (loop .at) (loop .j) in
+    let item = itemAt (args .from .class) (args .floats .now) (loop .at) (loop .j) in
     let far-is : c .before .no-closer .result ≡ noCloser (bestOf (loop .seen)) (leastSquaredGap (args .a-box) (boxOfItem item)) = rw (← c .before .before .gap-to .ensures) (c .before .no-closer .ensures) in
     let turn : Keeps (c .if4 .seen) (cond (c .before .no-closer .result) (bestOf (loop .seen)) (withItem a (bestOf (loop .seen)) item)) =
     ⊎-elim
@@ -97,9 +97,9 @@ loop-again c = let args = c .before .before .before .before .before .before .bef
     (c .if4 .came) in (
       loop .inv .0,
       turn .sound,
-      turn-past (args .class) (args .table .now) (args .floats .now) (loop .r) (loop .at) (loop .j) (loop .left) h (omega (arith, c .before .before .before .before .items-in .ensures)) (omega arith) (withEach _) refl (each-next a item _ _ _ (c .before .before .before .before .before .before .before .before .before .before .before .before .before .before .pre .1 .0) (turn .same ∙ ap (λ f. cond f (bestOf (loop .seen)) (withItem a (bestOf (loop .seen)) item)) far-is))
+      turn-past (args .from .class) (args .table .now) (args .floats .now) (loop .r) (loop .at) (loop .j) (loop .left) h (omega (arith, c .before .before .before .before .items-in .ensures)) (omega arith) (withEach _) refl (each-next a item _ _ _ (c .before .before .before .before .before .before .before .before .before .before .before .before .before .before .pre .1 .0) (turn .same ∙ ap (λ f. cond f (bestOf (loop .seen)) (withItem a (bestOf (loop .seen)) item)) far-is))
           ∙ loop .inv .2,
-      λ e. again-next a (args .class) (args .floats .now) (loop .at) (loop .j) (c .before .no-closer .result) (bestOf (loop .seen)) _ (sound-fits _ (loop .inv .1)) (turn .same) (not-true _ e),
+      λ e. again-next a (args .from .class) (args .floats .now) (loop .at) (loop .j) (c .before .no-closer .result) (bestOf (loop .seen)) _ (sound-fits _ (loop .inv .1)) (turn .same) (not-true _ e),
     )
 
 add-at : tie.Need-add-at Inv-loop μ-loop
@@ -120,14 +120,14 @@ loop-again-2 c = let args = c .before .before .before .before .before .before .b
     let h : loop .r < runCount (args .table .now) = omega (arith, c .before .before .before .before .before .before .before .before .run-count .ensures) in (
       room-next (args .table .now) (args .floats .now) (loop .r) (loop .at) _ h (c .before .before .count-at .ensures) (loop .inv .0),
       loop .inv .1,
-      rw (c .before .before .count-at .ensures, c .before .items-in .ensures, ← past-run (args .class) (args .table .now) (args .floats .now) (loop .r) (loop .at) h (loop .j) (omega (arith, c .before .items-in .ensures))) (loop .inv .2),
+      rw (c .before .before .count-at .ensures, c .before .items-in .ensures, ← past-run (args .from .class) (args .table .now) (args .floats .now) (loop .r) (loop .at) h (loop .j) (omega (arith, c .before .items-in .ensures))) (loop .inv .2),
       λ e. absurd (false≢true e),
     )
 
 returns-3 : tie.Need-returns-3 Inv-loop μ-loop
 returns-3 c = let args = c .before .before .before .before .before .args in
     let loop = c .before .loop in
-    record { same = sym (each-none _ _ _ (end-taken (args .class) (args .table .now) (args .floats .now) (loop .r) (loop .at) (loop .j) (loop .left) (omega (arith, c .before .before .run-count .ensures)))) ∙ loop .inv .2; sound = loop .inv .1 }
+    record { same = sym (each-none _ _ _ (end-taken (args .from .class) (args .table .now) (args .floats .now) (loop .r) (loop .at) (loop .j) (loop .left) (omega (arith, c .before .before .run-count .ensures)))) ∙ loop .inv .2; sound = loop .inv .1 }
 
 pub with-span-spec : {M : Type 1} → statement M
 with-span-spec =

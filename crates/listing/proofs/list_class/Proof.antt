@@ -74,8 +74,8 @@ loop-again c = let args = c .before .before .before .before .before .before .bef
     let h : loop .r < runCount (args .table .now) = omega (arith, c .before .before .before .before .before .before .before .before .before .before .before .run-count .ensures, c .before .before .before .before .before .before .before .before .before .loop-test .taken) in (
       omega arith,
       room-next (args .table .now) (args .floats .now) (loop .r) (loop .at) (n .result) h (n .ensures) (loop .inv .1),
-      new .kept .1 .1 .1 .1 .1 .1 .0 ∙ loop .inv .2,
-      new .kept .1 .1 .1 .1 .1 .1 .1 .0 ∙ loop .inv .3,
+      new .kept .1 .1 .1 .1 .1 .0 ∙ loop .inv .2,
+      new .kept .1 .1 .1 .1 .1 .1 .0 ∙ loop .inv .3,
       omega (arith, new .ensures .0, loop .inv .4, count-next (args .table .now) (loop .r) h, n .ensures),
       adds-next (loop .inv .5) {now = cond (isOfClass (args .class) (c .before .before .before .before .before .before .before .kind-at .result)) (itemsBy (args .class) (pointsFrom (args .floats .now) (loop .at) (n .result))) []} (new .ensures .1) (run-next (args .class) (args .floats .now) (args .table .now) (loop .at) (loop .r) (n .result) (c .before .before .before .before .before .before .before .kind-at .result) h (n .ensures) (c .before .before .before .before .before .before .before .kind-at .ensures)),
     )

@@ -14,14 +14,14 @@ use Rattle.listing.proofs.list_items.Statement.{statement}
 use Rattle.listing.proofs.list_items.Tie as tie
 
 abbrev Inv-loop : tie.InvT-loop
-Inv-loop class floats at n boxes₀ places₀ seen₀ count j₀ boxes places seen j = (j ≤ itemCount class n)
+Inv-loop n floats boxes₀ places₀ class r at seen₀ count j₀ boxes places seen j = (j ≤ itemCount class n)
     × (length boxes ≡ length boxes₀)
     × (length places ≡ length places₀)
     × (seen .count ≡ seen₀ .count + j)
     × AddsBut (itemsLeft class floats at n j) (itemsBy class (pointsFrom floats at n)) floats seen₀ boxes₀ places₀ seen boxes places
 
 abbrev μ-loop : tie.MeasureT-loop
-μ-loop class floats at n boxes₀ places₀ seen₀ count j₀ boxes places seen j = itemCount class n - j
+μ-loop n floats boxes₀ places₀ class r at seen₀ count j₀ boxes places seen j = itemCount class n - j
 
 item-count-requires : tie.Need-item-count-requires Inv-loop μ-loop
 item-count-requires c κs = search needs
@@ -33,16 +33,16 @@ list-item-requires : tie.Need-list-item-requires Inv-loop μ-loop
 list-item-requires c κs = let args = c .before .before .before .before .before .before .before .before .args in
     let pre = c .before .before .before .before .before .before .before .before .pre in
     let loop = c .before .before .before .loop in
-    let h : loop .j < itemCount (args .class) (args .n) = omega (arith, c .before .before .before .before .item-count .ensures, c .before .before .loop-test .taken) in (
+    let h : loop .j < itemCount (args .first .class) (args .n) = omega (arith, c .before .before .before .before .item-count .ensures, c .before .before .loop-test .taken) in (
       (pre .0, h),
       (
-        omega (arith, pre .1 .0, loop .inv .3, count-at-most (args .class) (args .n)),
+        omega (arith, pre .1 .0, loop .inv .3, count-at-most (args .first .class) (args .n)),
         (omega (arith, pre .1 .1 .0, loop .inv .1), omega (arith, pre .1 .1 .1, loop .inv .2)),
       ),
     )
 
 add-j : tie.Need-add-j Inv-loop μ-loop
-add-j c = omega (arith, c .before .before .before .before .before .before .before .before .before .item-count .ensures, c .before .before .before .before .before .before .before .loop-test .taken, count-at-most (c .before .before .before .before .before .before .before .before .before .before .before .before .before .args .class) (c .before .before .before .before .before .before .before .before .before .before .before .before .before .args .n), c .before .before .before .before .before .before .before .before .before .before .before .before .before .fits .n)
+add-j c = omega (arith, c .before .before .before .before .before .before .before .before .before .item-count .ensures, c .before .before .before .before .before .before .before .loop-test .taken, count-at-most (c .before .before .before .before .before .before .before .before .before .before .before .before .before .args .first .class) (c .before .before .before .before .before .before .before .before .before .before .before .before .before .args .n), c .before .before .before .before .before .before .before .before .before .before .before .before .before .fits .n)
 
 loop-less : tie.Need-loop-less Inv-loop μ-loop
 loop-less c = omega (arith, c .before .before .before .before .before .before .before .before .before .item-count .ensures, c .before .before .before .before .before .before .before .loop-test .taken)
@@ -51,12 +51,12 @@ loop-again : tie.Need-loop-again Inv-loop μ-loop
 loop-again c = let args = c .before .before .before .before .before .before .before .before .before .before .before .before .before .args in
     let loop = c .before .before .before .before .before .before .before .before .loop in
     let new = c .before .before .before .before .list-item in
-    let h : loop .j < itemCount (args .class) (args .n) = omega (arith, c .before .before .before .before .before .before .before .before .before .item-count .ensures, c .before .before .before .before .before .before .before .loop-test .taken) in (
+    let h : loop .j < itemCount (args .first .class) (args .n) = omega (arith, c .before .before .before .before .before .before .before .before .before .item-count .ensures, c .before .before .before .before .before .before .before .loop-test .taken) in (
       omega arith,
-      new .kept .1 .1 .1 .1 .1 .1 .0 ∙ loop .inv .1,
-      new .kept .1 .1 .1 .1 .1 .1 .1 .0 ∙ loop .inv .2,
+      new .kept .1 .1 .1 .1 .0 ∙ loop .inv .1,
+      new .kept .1 .1 .1 .1 .1 .0 ∙ loop .inv .2,
       omega (arith, new .ensures .0, loop .inv .3),
-      adds-next (loop .inv .4) {now = itemAt (args .class) (args .floats .now) (args .at) (loop .j) ∷ []} (new .ensures .1) (item-next (args .class) (args .floats .now) (args .at) (args .n) (loop .j) h),
+      adds-next (loop .inv .4) {now = itemAt (args .first .class) (args .floats .now) (args .first .at) (loop .j) ∷ []} (new .ensures .1) (item-next (args .first .class) (args .floats .now) (args .first .at) (args .n) (loop .j) h),
     )
 
 same-length : tie.Need-same-length Inv-loop μ-loop
@@ -68,8 +68,8 @@ same-length-2 c = c .before .loop .inv .2
 returns : tie.Need-returns Inv-loop μ-loop
 returns c = let args = c .before .before .before .before .before .before .args in
     let loop = c .before .loop in (
-      omega (arith, loop .inv .3, loop .inv .0, count-at-most (args .class) (args .n)),
-      adds-end (loop .inv .4) (left-none (args .class) (args .floats .now) (args .at) (args .n) (loop .j) (omega (arith, c .before .before .item-count .ensures, c .loop-test .left))),
+      omega (arith, loop .inv .3, loop .inv .0, count-at-most (args .first .class) (args .n)),
+      adds-end (loop .inv .4) (left-none (args .first .class) (args .floats .now) (args .first .at) (args .n) (loop .j) (omega (arith, c .before .before .item-count .ensures, c .loop-test .left))),
     )
 
 pub list-items-spec : {M : Type 1} → statement M

@@ -35,9 +35,18 @@ mul-t13 c = omega arith
 shared-slice-read-t15 : tie.Need-shared-slice-read-t15
 shared-slice-read-t15 c = omega arith
 
+add-t16 : tie.Need-add-t16
+add-t16 c = omega arith
+
+mul-t17 : tie.Need-mul-t17
+mul-t17 c = omega arith
+
+shared-slice-read-t19 : tie.Need-shared-slice-read-t19
+shared-slice-read-t19 c = omega arith
+
 returns : tie.Need-returns
 unfolding placeAt
-returns c = rw (← c .before .before .class-of .ensures)
+returns c = rw (← c .before .before .before .class-of .ensures)
 
 pub place-at-spec : {M : Type 1} → statement M
 place-at-spec =
@@ -53,4 +62,7 @@ place-at-spec =
     add-t12
     mul-t13
     shared-slice-read-t15
+    add-t16
+    mul-t17
+    shared-slice-read-t19
     returns)

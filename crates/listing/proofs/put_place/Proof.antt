@@ -1,5 +1,5 @@
 -- `listing::put_place` meets its contract. Assumes nothing.
-use native.Mathlib.Numerals.{add-one, add-two}
+use native.Mathlib.Numerals.{add-one, add-two, add-three}
 use native.Mathlib.Omega.{arith}
 use borrow.Author.Needs.{needs}
 use lib.ListN.{length-set}
@@ -36,11 +36,20 @@ mul-places-3 c = omega arith
 slice-write-places-3 : tie.Need-slice-write-places-3
 slice-write-places-3 c = simp length-set (omega arith)
 
+add-places-3 : tie.Need-add-places-3
+add-places-3 c = omega arith
+
+mul-places-4 : tie.Need-mul-places-4
+mul-places-4 c = omega arith
+
+slice-write-places-4 : tie.Need-slice-write-places-4
+slice-write-places-4 c = simp length-set (omega arith)
+
 same-length : tie.Need-same-length
 same-length c = simp length-set
 
 returns : tie.Need-returns
-returns c = simp (add-one, add-two, c .code-of .ensures)
+returns c = simp (add-one, add-two, add-three, c .code-of .ensures)
 
 pub put-place-spec : {M : Type 1} → statement M
 put-place-spec =
@@ -56,5 +65,8 @@ put-place-spec =
     add-places-2
     mul-places-3
     slice-write-places-3
+    add-places-3
+    mul-places-4
+    slice-write-places-4
     same-length
     returns)
