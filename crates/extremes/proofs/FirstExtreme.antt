@@ -14,6 +14,7 @@ use Rattle.primitives.specs.declared.Point.{Point}
 use Rattle.primitives.specs.declared.Witness.{Witness}
 use Rattle.extremes.specs.Pairs.{Pair, pairsWith, pairsOf}
 use Rattle.extremes.specs.Extreme.{measured, distanceOf, Counts, FirstAt, IsFirst, Holds}
+use Rattle.primitives.specs.Witnesses.{betterOf}
 use Rattle.extremes.specs.Sweeps.{taking}
 use Rattle.extremes.proofs.Lists.{Each, Before, each-at, before-at, fold-mapped}
 use Rattle.extremes.proofs.PairLists.{no-pairs, mapPair, pairs-mapped}
@@ -107,7 +108,7 @@ module _ {A : Type 0} (point : A → Point) where
     won p (x ∷ l) c = go (beats (distance p) (distance x)) refl (λ n. won x l n) (won p l c)
       where
         go : (t : Bool) → beats (distance p) (distance x) ≡ t → (Counts distance x → Won (x ∷ l) (bestOf point beats (some (measured point x)) l)) → Won (p ∷ l) (bestOf point beats (some (measured point p)) l)
-            → Won (p ∷ x ∷ l) (bestOf point beats (cond t (some (measured point x)) (some (measured point p))) l)
+            → Won (p ∷ x ∷ l) (bestOf point beats (some (cond t (measured point x) (measured point p))) l)
         go true h v w = replaced p x l _ c h (v (σ .winner (distance p) (distance x) h))
         go false h v w = stayed p x l _ c h w
 
@@ -125,11 +126,7 @@ module _ {A : Type 0} (point : A → Point) where
     some-stays : (w : Witness) (l : List (Pair A)) → bestOf point beats (some w) l ≡ none → ⊥
     unfolding taking
     some-stays w [] h = Option·none-ne-some w (sym h)
-    some-stays w (p ∷ l) h = go (beats (w .d) (distance p)) (λ v. some-stays v l) h
-      where
-        go : (t : Bool) → ((v : Witness) → bestOf point beats (some v) l ≡ none → ⊥) → bestOf point beats (cond t (some (measured point p)) (some w)) l ≡ none → ⊥
-        go true f g = f (measured point p) g
-        go false f g = f w g
+    some-stays w (p ∷ l) h = some-stays (betterOf beats w (measured point p)) l h
 
     none-empty : (ls rs : List A) → bestOf point beats none (pairsOf ls rs) ≡ none → (ls ≡ []) ⊎ (rs ≡ [])
     unfolding taking pairsOf pairsWith
