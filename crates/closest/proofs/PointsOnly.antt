@@ -13,10 +13,10 @@ use Rattle.extremes.proofs.BoxOfAll.{IsBinary64}
 use Rattle.extremes.proofs.ClosestPoints as points
 use Rattle.extremes.proofs.ClosestPoints.{closestPoints, shortest-line-of}
 use Rattle.extremes.proofs.PointsOnly as items
-use Rattle.coords.specs.Parts.{Run, mapRuns, verticesOf}
+use Rattle.coords.specs.Parts.{Run, mapRuns, PointRunsOnly, verticesOf}
 use Rattle.coords.proofs.Parts.{vertices-map}
 use Rattle.items.specs.Items.{Item, point, itemsOf, boxOfItem, uniteItem, boxOfItems}
-use Rattle.items.proofs.PointRuns.{PointRuns, items-of-points, point-runs-mapped}
+use Rattle.items.proofs.PointRuns.{items-of-points, point-runs-mapped}
 use Rattle.items.specs.Candidates.{candidatesOf}
 use Rattle.items.specs.Closest.{withItem, withEach, sweepOf, closestWithin, closestOf}
 use Rattle.extremes.specs.ClosestSweep.{noCloser}
@@ -61,7 +61,7 @@ pub shortest-line : {A : Type 0} (pointOf : A → Point) → ((a : A) → IsBina
 shortest-line pointOf f ls rs = rw (points-only (map pointOf ls) (map pointOf rs)) (shortest-line-of pointOf f ls rs)
 
 -- the same of runs, each of them a point run
-pub shortest-line-of-runs : {A : Type 0} (pointOf : A → Point) → ((a : A) → IsBinary64 (pointOf a)) → (ls rs : List (Run A)) → PointRuns ls → PointRuns rs
+pub shortest-line-of-runs : {A : Type 0} (pointOf : A → Point) → ((a : A) → IsBinary64 (pointOf a)) → (ls rs : List (Run A)) → PointRunsOnly ls → PointRunsOnly rs
     → Holds (distanceOf pointOf) atLeast (verticesOf ls) (verticesOf rs) (closestOf (itemsOf (mapRuns pointOf ls)) (itemsOf (mapRuns pointOf rs)) ≡ none)
     (λ p. closestOf (itemsOf (mapRuns pointOf ls)) (itemsOf (mapRuns pointOf rs)) ≡ some (measured pointOf p))
 shortest-line-of-runs pointOf f ls rs g h =

@@ -1,7 +1,8 @@
 -- What the tree of a geometry comes to (document 01, Parts): its runs, their numbers, the vertices. Definitions only.
 use Prim.Native.Nat.{ℕ, _+_}
 use mathlib.Core.List.{List, [], _∷_, _++_, map}
-use mathlib.Core.Bool.{Bool, cond, _||_}
+use mathlib.Core.Path.{_≡_}
+use mathlib.Core.Bool.{Bool, true, cond, _||_}
 use lib.ListN.{length}
 use lib.Dec.{eqb}
 use Rattle.coords.specs.Walk.{Coordinate, Geometry, geometry, Content, point, line, rings, members, Members, noMembers, oneMore, Parsed, ok, refused}
@@ -74,6 +75,11 @@ otherIf kind = cond (isPoint kind || isFace kind) 1 0
 unfoldable pub otherCount : {A : Type 0} → List (Run A) → ℕ
 otherCount [] = 0
 otherCount (run kind cs ∷ rs) = otherIf kind + otherCount rs
+
+-- every run is a point run: no line and no ring has a coordinate (document 01, Words of the third property)
+unfoldable pub PointRunsOnly : {A : Type 0} → List (Run A) → Type 0
+PointRunsOnly [] = Unit {0}
+PointRunsOnly (run kind cs ∷ rs) = (isPoint kind ≡ true) × PointRunsOnly rs
 
 -- the coordinates of the point runs
 unfoldable pub pointVertices : {A : Type 0} → List (Run A) → List A
