@@ -16,7 +16,7 @@ use Rattle.parts.specs.Points.{pointOf}
 use Rattle.operands.specs.Operands.{Workspaces}
 use Rattle.outcomes.specs.Operations.{noSide}
 use Rattle.outcomes.specs.Alike.{MeasuredAlike, AnswersAlike}
-use Rattle.outcomes.proofs.Alike.{two-alike, side-alike, alike}
+use Rattle.outcomes.proofs.Alike.{coordinates-alike, runs-alike, two-alike, side-alike, alike}
 use Rattle.interpolation.specs.Operation.{outOfRange, hasPointOrFace, isNoLine, interpolationChecks, checksOfLent, pointOfBlob, lineInterpolatePoint}
 use Rattle.interpolation.proofs.Lines.{segments-map}
 
@@ -43,7 +43,7 @@ module _ (s t : List ℕ) (same : MeasuredAlike s t) where
 
   after-walk-alike : (floats numbers output : ℕ) → firstOf (afterWalk s floats numbers output) ≡ firstOf (afterWalk t floats numbers output)
   unfolding afterWalk
-  after-walk-alike floats numbers output = rw (no-line-alike, same .coordinates, same .runs)
+  after-walk-alike floats numbers output = rw (no-line-alike, coordinates-alike s t same, runs-alike s t same)
 
   checks-alike : (fraction : Float) (w : Workspaces) (lent : List ℕ) → firstOf (checksOfLent s fraction w lent) ≡ firstOf (checksOfLent t fraction w lent)
   unfolding interpolationChecks afterWalk
