@@ -11,12 +11,11 @@ use lib.ListN.{length, length-append}
 use borrow.Author.Tests.{ne-eqb, eqb-true, eqb-false, lt-ltb}
 use Rattle.gpb.specs.Header.{geometryStart}
 use Rattle.coords.specs.Walk.{Coordinate, Geometry, Parsed, ok, refused, allLevels}
-use Rattle.coords.specs.Parts.{Run, run, mapRuns, walkedRuns, coordinateCount, otherCount, isPoint, isLine, isFace}
-use Rattle.coords.proofs.Parts.{map-length}
+use Rattle.coords.specs.Parts.{Run, run, mapRuns, walkedRuns, coordinateCount, otherCount, isPoint, isLine, isFace, segmentsBy, ofKind}
 use Rattle.coords.proofs.Each.{Each}
 use Rattle.coords.proofs.EachRun.{RunKind}
 use Rattle.coords.proofs.RunFacts.{HasRunKind, walk-kinds, HasSome, walk-runs-non-empty}
-use Rattle.interpolation.specs.Interpolation.{segmentsFrom, segmentsOfLine, segmentsOf}
+use Rattle.interpolation.specs.Interpolation.{segmentsOfLine, segmentsOf}
 use Rattle.interpolation.specs.Operation.{hasPointOrFace, isNoLine}
 use Rattle.blob.specs.Blob.{walkOfBlob, runsOfBlob}
 use Rattle.blob.specs.Inner.{operandOf}
@@ -25,20 +24,16 @@ use Rattle.interpolation.specs.Inner.{noLineBy}
 
 -- ---- how many
 
-from-length : {A : Type 0} (a : A) (cs : List A) → length (segmentsFrom a cs) ≡ length cs
-unfolding segmentsFrom
-from-length a [] = refl
-from-length a (b ∷ cs) = ap suc (from-length b cs)
-
 -- a line of n gives n - 1
 line-length : {A : Type 0} (cs : List A) → 0 < length cs → length (segmentsOfLine cs) + 1 ≡ length cs
-unfolding segmentsOfLine
+unfolding segmentsBy
 line-length [] h = absurd (omega arith)
-line-length (a ∷ cs) h = omega (arith, from-length a cs)
+line-length (a ∷ []) h = refl
+line-length (a ∷ b ∷ cs) h = omega (arith, line-length (b ∷ cs) (omega arith))
 
 -- at most one for each coordinate beside a run's first
 at-most : (rs : List (Run Coordinate)) → Each HasSome rs → length (segmentsOf rs) + length rs ≤ coordinateCount rs
-unfolding segmentsOf coordinateCount
+unfolding ofKind coordinateCount
 at-most [] e = omega arith
 at-most (run k cs ∷ rs) e = go (isLine k) (at-most rs (e .1))
   where
@@ -56,7 +51,7 @@ is-line k r e =
 
 -- exactly so many, where every run is a line
 exactly : (rs : List (Run Coordinate)) → Each HasSome rs → Each HasRunKind rs → hasPointOrFace rs ≡ false → length (segmentsOf rs) + length rs ≡ coordinateCount rs
-unfolding segmentsOf coordinateCount hasPointOrFace
+unfolding ofKind coordinateCount hasPointOrFace
 exactly [] e k h = refl
 exactly (run j cs ∷ rs) e k h = go (isPoint j || isFace j) refl h (exactly rs (e .1) (k .1))
   where
@@ -67,12 +62,13 @@ exactly (run j cs ∷ rs) e k h = go (isPoint j || isFace j) refl h (exactly rs 
 -- ---- coordinates that are mapped
 
 line-map : {A B : Type 0} (f : A → B) (cs : List A) → length (segmentsOfLine (map f cs)) ≡ length (segmentsOfLine cs)
-unfolding segmentsOfLine
+unfolding segmentsBy
 line-map f [] = refl
-line-map f (a ∷ cs) = from-length (f a) (map f cs) ∙ map-length f cs ∙ sym (from-length a cs)
+line-map f (a ∷ []) = refl
+line-map f (a ∷ b ∷ cs) = ap suc (line-map f (b ∷ cs))
 
 pub segments-map : {A B : Type 0} (f : A → B) (rs : List (Run A)) → length (segmentsOf (mapRuns f rs)) ≡ length (segmentsOf rs)
-unfolding segmentsOf mapRuns
+unfolding ofKind mapRuns
 segments-map f [] = refl
 segments-map f (run k cs ∷ rs) = go (isLine k) (segments-map f rs)
   where
