@@ -1,11 +1,11 @@
 -- The list of all pairs: of mapped vertices, of an empty side, and by fold. Assumes nothing.
 use mathlib.Core.Path.{_≡_, refl, sym, ap, _∙_}
-use mathlib.Core.List.{List, [], _∷_, _++_, map, foldl, foldl-append}
+use mathlib.Core.List.{List, [], _∷_, _++_, map, map-append, foldl, foldl-append}
 use mathlib.Core.Option.{Option·map}
 use Prim.Native.Nat.{ℕ}
 use lib.ListN.{getElem?}
 use Rattle.extremes.specs.Pairs.{Pair, pairsWith, pairsOf}
-use Rattle.extremes.proofs.Lists.{Each, each-append, map-append, get-mapped}
+use Rattle.extremes.proofs.Lists.{Each, each-append, get-mapped}
 
 module _ {A B : Type 0} (f : A → B) where
   abbrev pub mapPair : Pair A → Pair B

@@ -1,13 +1,12 @@
 -- Where each run is a point run, the items are the vertices, each a point. Assumes nothing.
-use mathlib.Core.Path.{_≡_, refl, sym, ap, _∙_}
+use mathlib.Core.Path.{_≡_, refl, sym}
 use mathlib.Core.Bool.{Bool, true, false}
-use mathlib.Core.List.{List, [], _∷_, _++_, map, append-nil}
+use mathlib.Core.List.{List, [], _∷_, map, map-append, append-nil}
 use Prim.Native.Nat.{ℕ}
 use borrow.Author.Tests.{eqb-true}
 use Rattle.coords.specs.Parts.{Run, run, mapRuns, isPoint, isLine, isFace, PointRunsOnly, ofKind, segmentEnds, verticesOf}
 use Rattle.primitives.specs.declared.Point.{Point}
-use Rattle.extremes.proofs.Lists.{map-append}
-use Rattle.items.specs.Items.{Item, point, pointsOf, segmentsOf, trianglesOf, itemsOf}
+use Rattle.items.specs.Items.{point, pointsOf, segmentsOf, trianglesOf, itemsOf}
 
 no-line : (kind : ℕ) → isPoint kind ≡ true → isLine kind ≡ false
 no-line kind e = rw (eqb-true kind 1 e)

@@ -1,6 +1,4 @@
 -- What the closest sweep pairs off: points, segments and triangles (document 01, Parts, Pair measures, Closest sweep). Definitions only.
-use Prim.Native.Nat.{ℕ}
-use mathlib.Core.Bool.{Bool, cond}
 use mathlib.Core.List.{List, [], _∷_, _++_, map, foldl}
 use mathlib.Core.Option.{Option, none, some}
 use Rattle.coords.specs.Parts.{Run, isPoint, isLine, isFace, segmentsBy}
