@@ -10,6 +10,7 @@ use Rattle.primitives.specs.declared.Witness.{Witness}
 use Rattle.primitives.specs.declared.Aabb.{Aabb}
 use Rattle.primitives.specs.Boxes.{boxOfPoint, addPoint}
 use Rattle.primitives.specs.Witnesses.{betterOf}
+-- the senses of the two sweeps
 pub use Rattle.primitives.specs.Witnesses.{longer, shorter}
 
 -- both sweeps: each element in order, unless it is skipped

@@ -2,10 +2,11 @@
 use mathlib.Core.List.{List, [], _∷_, _++_, map, foldl}
 use mathlib.Core.Option.{Option, none, some}
 use Rattle.coords.specs.Parts.{Run, isPoint, isLine, isFace, segmentsBy}
-unfoldable pub use Rattle.coords.specs.Parts.{ofKind as itemsOfKind}
 use Rattle.primitives.specs.declared.Point.{Point}
 use Rattle.primitives.specs.declared.Aabb.{Aabb}
 use Rattle.primitives.specs.Boxes.{boxOfPoint, unionOf}
+-- the items of the runs of a kind: what these runs come to
+unfoldable pub use Rattle.coords.specs.Parts.{ofKind as itemsOfKind}
 
 pub data Item : Type 0 where
   point : Point → Item

@@ -14,11 +14,11 @@ witnessOf d a b = record { d = d; ax = a .x; ay = a .y; az = a .z; bx = b .x; by
 unfoldable pub betweenOf : Point → Point → Witness
 betweenOf a b = witnessOf (rootOf (squaredDistance a b)) a b
 
--- a longer distance beats another only if it is strictly greater
+-- what beats a distance: for the longer one what is strictly greater (document 01, Farthest sweep)
 abbrev pub longer : Float → Float → Bool
 longer best new = lt best new
 
--- and a shorter one only if it is strictly less
+-- for the shorter one what is strictly less
 abbrev pub shorter : Float → Float → Bool
 shorter best new = lt new best
 
