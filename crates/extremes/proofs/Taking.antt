@@ -4,15 +4,14 @@ use mathlib.Core.Bool.{Bool, true, false, cond}
 use mathlib.Core.List.{List, [], _∷_, foldl}
 use mathlib.Core.Option.{Option, none, some}
 use lib.Dec.{T}
-use lib.Ieee.{Float, binary64, lt, fits}
+use lib.Ieee.{Float, binary64, fits}
 use Rattle.primitives.specs.declared.Point.{Point}
 use Rattle.primitives.specs.declared.Witness.{Witness}
-use Rattle.primitives.specs.Vectors.{squaredDistance}
 use Rattle.primitives.specs.Witnesses.{betweenOf}
-use Rattle.extremes.specs.Sweeps.{taking, longer, shorter}
+use Rattle.extremes.specs.Sweeps.{taking}
 use Rattle.extremes.proofs.Lists.{Each}
 use Rattle.extremes.proofs.Senses.{Sense, not-itself, still-beaten}
-use Rattle.extremes.proofs.Distances.{distance-fits, root-not-needed}
+use Rattle.extremes.proofs.Distances.{distance-fits}
 
 -- what a sweep over points holds: nothing, or the witness of two points
 pub data Made : Option Witness → Type 0 where
@@ -55,13 +54,6 @@ module _ (beats : Float → Float → Bool) where
   pub unbeaten-row : {X : Type 0} (witness : X → Witness) (s : Option Witness) (l : List X) → Each (λ (x : X). Unbeaten s (witness x)) l → foldl (λ t x. taking beats t (witness x)) s l ≡ s
   unbeaten-row witness s [] e = refl
   unbeaten-row witness s (x ∷ l) e = ap (λ (t : Option Witness). foldl (λ t x. taking beats t (witness x)) t l) (unbeaten-stays s (witness x) (e .0)) ∙ unbeaten-row witness s l (e .1)
-
--- ---- no root is needed where the sum of squares does not beat the best's
-pub not-longer-stays : (p q a b : Point) → lt (squaredDistance p q) (squaredDistance a b) ≡ false → taking longer (some (betweenOf p q)) (betweenOf a b) ≡ some (betweenOf p q)
-not-longer-stays p q a b h = unbeaten-stays longer (some (betweenOf p q)) (betweenOf a b) (root-not-needed p q a b h)
-
-pub not-shorter-stays : (p q a b : Point) → lt (squaredDistance a b) (squaredDistance p q) ≡ false → taking shorter (some (betweenOf p q)) (betweenOf a b) ≡ some (betweenOf p q)
-not-shorter-stays p q a b h = unbeaten-stays shorter (some (betweenOf p q)) (betweenOf a b) (root-not-needed a b p q h)
 
 -- ---- what is offered again
 module _ {order beats : Float → Float → Bool} (σ : Sense order beats) where

@@ -1,16 +1,16 @@
 -- One turn of a loop over the items of a run, or over runs: what is left to do. Assumes nothing.
-use mathlib.Core.Path.{_≡_, refl, sym, ap, _∙_}
-use mathlib.Core.Bool.{Bool, true, false, cond}
-use mathlib.Core.List.{List, [], _∷_, _++_, map}
+use mathlib.Core.Path.{_≡_, refl, sym}
+use mathlib.Core.Bool.{Bool, true, false}
+use mathlib.Core.List.{List, [], _∷_, _++_}
 use Prim.Native.Nat.{ℕ, zero, suc, _+_, _-_, _*_, _<_, _≤_}
 use native.Mathlib.Omega.{arith}
 use lib.ListN.{drop}
 use lib.Ieee.{Float}
-use Rattle.coords.specs.Parts.{Run, run, segmentsBy}
+use Rattle.coords.specs.Parts.{segmentsBy}
 use Rattle.workspace.specs.Workspace.{numbersPerRun}
 use Rattle.parts.specs.Stored.{pointAt, pointsFrom, runsFrom, runCount, kindAt, countAt}
 use Rattle.parts.proofs.Turns.{runs-next, runs-none}
-use Rattle.items.specs.Items.{Item, point, segment, triangle, pointsOf, segmentsOf, trianglesOf, itemsOfKind}
+use Rattle.items.specs.Items.{Item, segment, triangle, pointsOf, segmentsOf, trianglesOf, itemsOfKind}
 use Rattle.items.specs.Inner.{isOfClass, itemsBy, classItems, itemCount, itemAt}
 use Rattle.items.specs.declared.Class.{Class}
 use Rattle.items.specs.declared.Class.the-variants.{Points, Segments, Triangles}
