@@ -11,10 +11,9 @@ use borrow.Author.Tests.{le-ltb, le-leb}
 use Rattle.fields.specs.Fields.{u32At}
 use Rattle.gpb.specs.Header.{isGp, flagsOf, envelopeIndicator, doublesOf, geometryStart, byteOrderOf, topType, ewkbSrid, sridOf, underEightBytes, versionNotZero, extendedBit, reservedBits, indicatorAboveFour, endsInEnvelope, topHeaderCut, byteOrderAboveOne, lacksZ, gpChecks, topChecks, headerChecks, headerChecks3d}
 use Rattle.coords.specs.Walk.{ok, walkOf, allLevels}
-use Rattle.coords.specs.Refusals.{walkChecks}
 use Rattle.coords.proofs.Ends.{walk-end}
 use Rattle.coords.proofs.Moves.{walk-moves}
-use Rattle.blob.specs.Blob.{walkOfBlob, bytesChecks}
+use Rattle.blob.specs.Blob.{walkOfBlob}
 use Rattle.blob.specs.Ignored.{SameGpHeader, SameButIgnored, ReadAlike}
 
 -- ---- bytes
@@ -144,13 +143,8 @@ module _ (s t : List ℕ) (same : SameButIgnored s t) where
   walk-alike : walkOfBlob s ≡ walkOfBlob t
   walk-alike = same .read ∙ (sym walk-there ∙ ap (walkOf allLevels t) start)
 
-  walk-checks-alike : walkChecks s (geometryStart s) ≡ walkChecks t (geometryStart t)
-  unfolding walkChecks
-  walk-checks-alike = rw walk-alike
-
   -- the law
   pub ignored-changes-nothing : ReadAlike s t
-  unfolding bytesChecks
   ignored-changes-nothing =
       record {
         header = header-alike;
@@ -159,6 +153,4 @@ module _ (s t : List ℕ) (same : SameButIgnored s t) where
         type = type;
         srid = srid;
         walk = walk-alike;
-        walk-refusals = walk-checks-alike;
-        refusals = rw (header-alike, walk-checks-alike);
       }

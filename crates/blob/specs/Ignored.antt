@@ -7,8 +7,7 @@ use mathlib.Core.List.{List}
 use lib.Seq.{slice}
 use Rattle.gpb.specs.Header.{isGp, flagsOf, geometryStart, topType, sridOf, headerChecks, headerChecks3d}
 use Rattle.coords.specs.Walk.{Geometry, ok}
-use Rattle.coords.specs.Refusals.{walkChecks}
-use Rattle.blob.specs.Blob.{walkOfBlob, bytesChecks}
+use Rattle.blob.specs.Blob.{walkOfBlob}
 
 -- two GP headers are alike but for the empty flag, 10 hexadecimal of byte 3, and the envelope's doubles
 pub record SameGpHeader (s t : List ℕ) : Type 0 where
@@ -26,7 +25,7 @@ pub record SameButIgnored (s t : List ℕ) : Type 0 where
   pub gp-header : isGp s ≡ true → SameGpHeader s t
   pub same-geometry : slice (geometryStart s) end s ≡ slice (geometryStart s) end t
 
--- two blobs are read alike: all that reading and measuring take from a blob's bytes is the same
+-- two blobs are read alike: all that reading and measuring take from a blob's bytes is the same; the walk's refusals are told by the walk
 pub record ReadAlike (s t : List ℕ) : Type 0 where
   pub header : headerChecks s ≡ headerChecks t
   pub header-3d : headerChecks3d s ≡ headerChecks3d t
@@ -34,5 +33,3 @@ pub record ReadAlike (s t : List ℕ) : Type 0 where
   pub type : topType s ≡ topType t
   pub srid : sridOf s ≡ sridOf t
   pub walk : walkOfBlob s ≡ walkOfBlob t
-  pub walk-refusals : walkChecks s (geometryStart s) ≡ walkChecks t (geometryStart t)
-  pub refusals : bytesChecks s ≡ bytesChecks t

@@ -14,7 +14,8 @@ use Rattle.primitives.specs.Boxes.{boxOfPoint, addPoint, leastCorner, greatestC
 use Rattle.extremes.proofs.Lists.{Each, each-mapped, each-weaken}
 use Rattle.extremes.proofs.BoxOfAll.{IsBinary64, Axis, EndsFit, Fitting, axis-x, axis-y, axis-z, point-fitting}
 use Rattle.parts.specs.Stored.{pointAt, pointsFrom}
-use Rattle.items.specs.Items.{Item, point, segment, triangle, pointsOf, segmentsFrom, segmentsOf, fanFrom, trianglesOf, boxOfItem}
+use Rattle.coords.specs.Parts.{segmentsBy}
+use Rattle.items.specs.Items.{Item, point, segment, triangle, pointsOf, segmentsOf, trianglesOf, boxOfItem}
 use Rattle.items.specs.Inner.{itemsBy}
 use Rattle.items.specs.declared.Class.{Class}
 use Rattle.items.specs.declared.Class.the-variants.{Points, Segments, Triangles}
@@ -52,24 +53,19 @@ item-fitting (point p) f = point-fitting p f
 item-fitting (segment a b) f = united-fitting (boxOfPoint a) b (point-fitting a (f .0)) (f .1)
 item-fitting (triangle a b c) f = united-fitting (unionOf (boxOfPoint a) (boxOfPoint b)) c (united-fitting (boxOfPoint a) b (point-fitting a (f .0)) (f .1)) (f .2)
 
-segments-fit : (a : Point) (ps : List Point) → IsBinary64 a → Each IsBinary64 ps → Each PointsFit (segmentsFrom a ps)
-unfolding segmentsFrom
-segments-fit a [] f e = tt
-segments-fit a (b ∷ ps) f e = ((f, e .0), segments-fit b ps (e .0) (e .1))
-
-fan-fit : (a b : Point) (ps : List Point) → IsBinary64 a → IsBinary64 b → Each IsBinary64 ps → Each PointsFit (fanFrom a b ps)
-unfolding fanFrom
-fan-fit a b [] f g e = tt
-fan-fit a b (c ∷ ps) f g e = ((f, g, e .0), fan-fit a c ps f (e .0) (e .1))
+-- an item of each segment
+segments-fit : (item : Point → Point → Item) → ((a b : Point) → IsBinary64 a → IsBinary64 b → PointsFit (item a b)) → (ps : List Point) → Each IsBinary64 ps → Each PointsFit (segmentsBy item ps)
+unfolding segmentsBy
+segments-fit item fit [] e = tt
+segments-fit item fit (a ∷ []) e = tt
+segments-fit item fit (a ∷ b ∷ ps) e = (fit a b (e .0) (e .1 .0), segments-fit item fit (b ∷ ps) (e .1))
 
 run-fit : (class : Class) (ps : List Point) → Each IsBinary64 ps → Each PointsFit (itemsBy class ps)
 unfolding pointsOf segmentsOf trianglesOf
 run-fit Points ps e = each-mapped point PointsFit ps e
-run-fit Segments [] e = tt
-run-fit Segments (a ∷ ps) e = segments-fit a ps (e .0) (e .1)
+run-fit Segments ps e = segments-fit segment (λ a b f g. (f, g)) ps e
 run-fit Triangles [] e = tt
-run-fit Triangles (a ∷ []) e = tt
-run-fit Triangles (a ∷ b ∷ ps) e = fan-fit a b ps (e .0) (e .1 .0) (e .1 .1)
+run-fit Triangles (a ∷ ps) e = segments-fit (triangle a) (λ b c f g. (e .0, f, g)) ps (e .1)
 
 -- the items of a run
 pub run-fitting : (class : Class) (ps : List Point) → Each IsBinary64 ps → Each (λ (i : Item). Fitting (boxOfItem i)) (itemsBy class ps)

@@ -26,7 +26,7 @@ pick false p q = q
 taken : (s : Option Witness) (w : Witness) → There (taking shorter s w)
 unfolding taking
 taken none w = there w
-taken (some best) w = pick (shorter (best .d) (w .d)) (there w) (there best)
+taken (some best) w = there _
 
 all-taken : {s : Option Witness} → There s → (l : List Witness) → There (foldl (taking shorter) s l)
 all-taken h [] = h

@@ -6,29 +6,23 @@ use Rattle.primitives.specs.declared.Point.{Point}
 use Rattle.primitives.specs.declared.Witness.{Witness}
 use Rattle.primitives.specs.declared.Aabb.{Aabb}
 use Rattle.primitives.specs.Witnesses.{betweenOf}
-use Rattle.primitives.specs.Boxes.{boxOfPoint, addPoint, unionOf, leastSquaredGap}
+use Rattle.primitives.specs.Boxes.{boxOfPoint, addPoint, unionOf}
 use Rattle.extremes.specs.Sweeps.{taking, shorter, boxOfAll}
 use Rattle.extremes.specs.Extreme.{measured, distanceOf, atLeast, Holds}
 use Rattle.extremes.proofs.BoxOfAll.{IsBinary64}
 use Rattle.extremes.proofs.ClosestPoints as points
 use Rattle.extremes.proofs.ClosestPoints.{closestPoints, shortest-line-of}
 use Rattle.extremes.proofs.PointsOnly as items
-use Rattle.coords.specs.Parts.{Run, mapRuns, verticesOf}
+use Rattle.coords.specs.Parts.{Run, mapRuns, PointRunsOnly, verticesOf}
 use Rattle.coords.proofs.Parts.{vertices-map}
 use Rattle.items.specs.Items.{Item, point, itemsOf, boxOfItem, uniteItem, boxOfItems}
-use Rattle.items.proofs.PointRuns.{PointRuns, items-of-points, point-runs-mapped}
+use Rattle.items.proofs.PointRuns.{items-of-points, point-runs-mapped}
 use Rattle.items.specs.Candidates.{candidatesOf}
 use Rattle.items.specs.Closest.{withItem, withEach, sweepOf, closestWithin, closestOf}
-use Rattle.extremes.specs.ClosestSweep.{noCloser}
 
 box-is : (p : Point) → boxOfItem (point p) ≡ boxOfPoint p
 unfolding boxOfItem
 box-is p = refl
-
-skip-is : (s : Option Witness) (outer inner : Aabb) → noCloser s (leastSquaredGap outer inner) ≡ points.noCloser s outer inner
-unfolding noCloser points.noCloser
-skip-is none outer inner = refl
-skip-is (some best) outer inner = refl
 
 offer-is : (s : Option Witness) (p q : Point) → withItem (point p) s (point q) ≡ taking shorter s (betweenOf p q)
 unfolding withItem candidatesOf
@@ -43,11 +37,11 @@ box-of-points : (q : Point) (l : List Point) → boxOfItems (map point (q ∷ l)
 unfolding boxOfItems uniteItem
 box-of-points q l =
     unite-all (boxOfItem (point q)) (map point l)
-    ∙ ap {B = Option Aabb} some (items.box-of-items point boxOfItem box-is (λ s outer inner. noCloser s (leastSquaredGap outer inner)) skip-is (λ s a b. withItem a s b) offer-is q l)
+    ∙ ap {B = Option Aabb} some (items.box-of-items point boxOfItem box-is withItem offer-is q l)
 
 within : (box : Aabb) (ps qs : List Point) → closestWithin (some box) (map point ps) (map point qs) ≡ points.closestWithin (some box) ps qs
 unfolding closestWithin sweepOf withEach points.closestWithin
-within box ps qs = items.outer-items point boxOfItem box-is (λ s outer inner. noCloser s (leastSquaredGap outer inner)) skip-is (λ s a b. withItem a s b) offer-is box ps qs
+within box ps qs = items.outer-items point boxOfItem box-is withItem offer-is box ps qs
 
 pub points-only : (ps qs : List Point) → closestOf (map point ps) (map point qs) ≡ closestPoints ps qs
 unfolding closestOf closestPoints boxOfAll
@@ -61,7 +55,7 @@ pub shortest-line : {A : Type 0} (pointOf : A → Point) → ((a : A) → IsBina
 shortest-line pointOf f ls rs = rw (points-only (map pointOf ls) (map pointOf rs)) (shortest-line-of pointOf f ls rs)
 
 -- the same of runs, each of them a point run
-pub shortest-line-of-runs : {A : Type 0} (pointOf : A → Point) → ((a : A) → IsBinary64 (pointOf a)) → (ls rs : List (Run A)) → PointRuns ls → PointRuns rs
+pub shortest-line-of-runs : {A : Type 0} (pointOf : A → Point) → ((a : A) → IsBinary64 (pointOf a)) → (ls rs : List (Run A)) → PointRunsOnly ls → PointRunsOnly rs
     → Holds (distanceOf pointOf) atLeast (verticesOf ls) (verticesOf rs) (closestOf (itemsOf (mapRuns pointOf ls)) (itemsOf (mapRuns pointOf rs)) ≡ none)
     (λ p. closestOf (itemsOf (mapRuns pointOf ls)) (itemsOf (mapRuns pointOf rs)) ≡ some (measured pointOf p))
 shortest-line-of-runs pointOf f ls rs g h =

@@ -1,11 +1,11 @@
 -- Laws of runs and vertices: they follow a map of the coordinates, and a fact of every coordinate is one of every vertex. Assumes nothing.
 use mathlib.Core.Path.{_≡_, refl, sym, ap, _∙_}
 use mathlib.Core.Bool.{Bool, true, false, cond}
-use mathlib.Core.List.{List, [], _∷_, _++_, map, map-append}
+use mathlib.Core.List.{List, [], _∷_, _++_, map, map-append, flatten}
 use Prim.Native.Nat.{ℕ, suc, _+_, _*_, _≤_}
 use native.Mathlib.Omega.{arith}
 use lib.ListN.{length, length-append}
-use Rattle.coords.specs.Parts.{Run, run, mapRuns, coordinateCount, isPoint, isLine, isFace, pointVertices, endsFrom, segmentEnds, segmentVertices, faceVertices, verticesOf}
+use Rattle.coords.specs.Parts.{Run, run, mapRuns, coordinateCount, isPoint, isLine, isFace, segmentsBy, ofKind, segmentEnds, verticesOf}
 use Rattle.coords.proofs.Each.{Each, each-append, each-cond}
 
 -- ---- under a map
@@ -19,41 +19,29 @@ module _ {A B : Type 0} (f : A → B) where
   map-cond true l = refl
   map-cond false l = refl
 
-  ends-map : (a : A) (l : List A) → endsFrom (f a) (map f l) ≡ map f (endsFrom a l)
-  unfolding endsFrom
-  ends-map a [] = refl
-  ends-map a (b ∷ l) = ap (λ (m : List B). f a ∷ f b ∷ m) (ends-map b l)
-
-  pub segment-ends-map : (l : List A) → segmentEnds (map f l) ≡ map f (segmentEnds l)
-  unfolding segmentEnds
+  segment-ends-map : (l : List A) → segmentEnds (map f l) ≡ map f (segmentEnds l)
+  unfolding segmentEnds segmentsBy flatten
   segment-ends-map [] = refl
-  segment-ends-map (a ∷ l) = ends-map a l
+  segment-ends-map (a ∷ []) = refl
+  segment-ends-map (a ∷ b ∷ l) = ap (λ (m : List B). f a ∷ f b ∷ m) (segment-ends-map (b ∷ l))
 
   -- what a run adds, and what the rest gives
   add-map : (l m : List A) (l′ m′ : List B) → l′ ≡ map f l → m′ ≡ map f m → l′ ++ m′ ≡ map f (l ++ m)
   add-map l m l′ m′ p q = rw (p, q) (sym (map-append f l m))
 
-  pub points-map : (rs : List (Run A)) → pointVertices (mapRuns f rs) ≡ map f (pointVertices rs)
-  unfolding pointVertices mapRuns
-  points-map [] = refl
-  points-map (run k cs ∷ rs) = add-map (cond (isPoint k) cs []) (pointVertices rs) _ _ (map-cond (isPoint k) cs) (points-map rs)
-
-  pub segments-map : (rs : List (Run A)) → segmentVertices (mapRuns f rs) ≡ map f (segmentVertices rs)
-  unfolding segmentVertices mapRuns
-  segments-map [] = refl
-  segments-map (run k cs ∷ rs) =
-      add-map (cond (isLine k) (segmentEnds cs) []) (segmentVertices rs) _ _ (ap (λ (l : List B). cond (isLine k) l []) (segment-ends-map cs) ∙ map-cond (isLine k) (segmentEnds cs)) (segments-map rs)
-
-  pub faces-map : (rs : List (Run A)) → faceVertices (mapRuns f rs) ≡ map f (faceVertices rs)
-  unfolding faceVertices mapRuns
-  faces-map [] = refl
-  faces-map (run k cs ∷ rs) = add-map (cond (isFace k) cs []) (faceVertices rs) _ _ (map-cond (isFace k) cs) (faces-map rs)
+  of-kind-map : (test : ℕ → Bool) (g : List A → List A) (h : List B → List B) → ((cs : List A) → h (map f cs) ≡ map f (g cs)) → (rs : List (Run A)) → ofKind test h (mapRuns f rs) ≡ map f (ofKind test g rs)
+  unfolding ofKind mapRuns
+  of-kind-map test g h e [] = refl
+  of-kind-map test g h e (run k cs ∷ rs) =
+      add-map (cond (test k) (g cs) []) (ofKind test g rs) _ _ (ap (λ (l : List B). cond (test k) l []) (e cs) ∙ map-cond (test k) (g cs)) (of-kind-map test g h e rs)
 
   -- the vertices of mapped runs are the vertices, mapped
   pub vertices-map : (rs : List (Run A)) → verticesOf (mapRuns f rs) ≡ map f (verticesOf rs)
   unfolding verticesOf
   vertices-map rs =
-      add-map (pointVertices rs) (segmentVertices rs ++ faceVertices rs) _ _ (points-map rs) (add-map (segmentVertices rs) (faceVertices rs) _ _ (segments-map rs) (faces-map rs))
+      let alone : (test : ℕ → Bool) → ofKind test (λ cs. cs) (mapRuns f rs) ≡ map f (ofKind test (λ cs. cs) rs) = λ test. of-kind-map test (λ cs. cs) (λ cs. cs) (λ cs. refl) rs in
+      add-map (ofKind isPoint (λ cs. cs) rs) (ofKind isLine segmentEnds rs ++ ofKind isFace (λ cs. cs) rs) _ _ (alone isPoint)
+      (add-map (ofKind isLine segmentEnds rs) (ofKind isFace (λ cs. cs) rs) _ _ (of-kind-map isLine segmentEnds segmentEnds segment-ends-map rs) (alone isFace))
 
   pub count-map : (rs : List (Run A)) → coordinateCount (mapRuns f rs) ≡ coordinateCount rs
   unfolding coordinateCount mapRuns
@@ -72,47 +60,32 @@ module _ {A : Type 0} (P : A → Type 0) where
   abbrev pub InRun : Run A → Type 0
   InRun (run k cs) = Each P cs
 
-  ends-each : (a : A) (l : List A) → P a → Each P l → Each P (endsFrom a l)
-  unfolding endsFrom
-  ends-each a [] p e = tt
-  ends-each a (b ∷ l) p e = (p, (e .0, ends-each b l (e .0) (e .1)))
-
-  pub segment-ends-each : (l : List A) → Each P l → Each P (segmentEnds l)
-  unfolding segmentEnds
+  segment-ends-each : (l : List A) → Each P l → Each P (segmentEnds l)
+  unfolding segmentEnds segmentsBy flatten
   segment-ends-each [] e = tt
-  segment-ends-each (a ∷ l) e = ends-each a l (e .0) (e .1)
+  segment-ends-each (a ∷ []) e = tt
+  segment-ends-each (a ∷ b ∷ l) e = (e .0, (e .1 .0, segment-ends-each (b ∷ l) (e .1)))
 
-  pub points-each : (rs : List (Run A)) → Each InRun rs → Each P (pointVertices rs)
-  unfolding pointVertices
-  points-each [] e = tt
-  points-each (run k cs ∷ rs) e = each-append P (cond (isPoint k) cs []) (pointVertices rs) (each-cond P (isPoint k) cs (e .0)) (points-each rs (e .1))
-
-  pub segments-each : (rs : List (Run A)) → Each InRun rs → Each P (segmentVertices rs)
-  unfolding segmentVertices
-  segments-each [] e = tt
-  segments-each (run k cs ∷ rs) e = each-append P (cond (isLine k) (segmentEnds cs) []) (segmentVertices rs) (each-cond P (isLine k) (segmentEnds cs) (segment-ends-each cs (e .0))) (segments-each rs (e .1))
-
-  pub faces-each : (rs : List (Run A)) → Each InRun rs → Each P (faceVertices rs)
-  unfolding faceVertices
-  faces-each [] e = tt
-  faces-each (run k cs ∷ rs) e = each-append P (cond (isFace k) cs []) (faceVertices rs) (each-cond P (isFace k) cs (e .0)) (faces-each rs (e .1))
+  of-kind-each : (test : ℕ → Bool) (g : List A → List A) → ((cs : List A) → Each P cs → Each P (g cs)) → (rs : List (Run A)) → Each InRun rs → Each P (ofKind test g rs)
+  unfolding ofKind
+  of-kind-each test g f [] e = tt
+  of-kind-each test g f (run k cs ∷ rs) e = each-append P (cond (test k) (g cs) []) (ofKind test g rs) (each-cond P (test k) (g cs) (f cs (e .0))) (of-kind-each test g f rs (e .1))
 
   -- what is said of every coordinate of the runs holds of every vertex
   pub vertices-each : (rs : List (Run A)) → Each InRun rs → Each P (verticesOf rs)
   unfolding verticesOf
-  vertices-each rs e = each-append P (pointVertices rs) (segmentVertices rs ++ faceVertices rs) (points-each rs e) (each-append P (segmentVertices rs) (faceVertices rs) (segments-each rs e) (faces-each rs e))
+  vertices-each rs e =
+      let alone : (test : ℕ → Bool) → Each P (ofKind test (λ cs. cs) rs) = λ test. of-kind-each test (λ cs. cs) (λ cs h. h) rs e in
+      each-append P (ofKind isPoint (λ cs. cs) rs) (ofKind isLine segmentEnds rs ++ ofKind isFace (λ cs. cs) rs) (alone isPoint)
+      (each-append P (ofKind isLine segmentEnds rs) (ofKind isFace (λ cs. cs) rs) (of-kind-each isLine segmentEnds segment-ends-each rs e) (alone isFace))
 
 -- ---- how many
 
-ends-length : {A : Type 0} (a : A) (l : List A) → length (endsFrom a l) ≡ 2 * length l
-unfolding endsFrom
-ends-length a [] = refl
-ends-length a (b ∷ l) = omega (arith, ends-length b l)
-
 segment-ends-length : {A : Type 0} (l : List A) → length (segmentEnds l) ≤ 2 * length l
-unfolding segmentEnds
+unfolding segmentEnds segmentsBy flatten
 segment-ends-length [] = omega arith
-segment-ends-length (a ∷ l) = omega (arith, ends-length a l)
+segment-ends-length (a ∷ []) = omega arith
+segment-ends-length (a ∷ b ∷ l) = omega (arith, segment-ends-length (b ∷ l))
 
 -- what one run gives to the points, the segments' ends and the faces
 run-length : {A : Type 0} (k : ℕ) (cs : List A) → length (cond (isPoint k) cs []) + (length (cond (isLine k) (segmentEnds cs) []) + length (cond (isFace k) cs [])) ≤ 4 * length cs
@@ -128,11 +101,11 @@ run-length k cs = go (isPoint k) (isLine k) (isFace k)
     go false false true = omega arith
     go false false false = omega arith
 
-parts-length : {A : Type 0} (rs : List (Run A)) → length (pointVertices rs) + (length (segmentVertices rs) + length (faceVertices rs)) ≤ 4 * coordinateCount rs
-unfolding pointVertices segmentVertices faceVertices coordinateCount
+parts-length : {A : Type 0} (rs : List (Run A)) → length (ofKind isPoint (λ cs. cs) rs) + (length (ofKind isLine segmentEnds rs) + length (ofKind isFace (λ cs. cs) rs)) ≤ 4 * coordinateCount rs
+unfolding ofKind coordinateCount
 parts-length [] = omega arith
 parts-length (run k cs ∷ rs) =
-    omega (arith, run-length k cs, parts-length rs, length-append (cond (isPoint k) cs []) (pointVertices rs), length-append (cond (isLine k) (segmentEnds cs) []) (segmentVertices rs), length-append (cond (isFace k) cs []) (faceVertices rs))
+    omega (arith, run-length k cs, parts-length rs, length-append (cond (isPoint k) cs []) (ofKind isPoint (λ cs. cs) rs), length-append (cond (isLine k) (segmentEnds cs) []) (ofKind isLine segmentEnds rs), length-append (cond (isFace k) cs []) (ofKind isFace (λ cs. cs) rs))
 
 -- at most four vertices for each coordinate
 pub vertices-length : {A : Type 0} (rs : List (Run A)) → length (verticesOf rs) ≤ 4 * coordinateCount rs

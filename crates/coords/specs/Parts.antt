@@ -1,7 +1,8 @@
 -- What the tree of a geometry comes to (document 01, Parts): its runs, their numbers, the vertices. Definitions only.
 use Prim.Native.Nat.{ℕ, _+_}
-use mathlib.Core.List.{List, [], _∷_, _++_, map}
-use mathlib.Core.Bool.{Bool, cond, _||_}
+use mathlib.Core.List.{List, [], _∷_, _++_, map, flatten}
+use mathlib.Core.Path.{_≡_}
+use mathlib.Core.Bool.{Bool, true, cond, _||_}
 use lib.ListN.{length}
 use lib.Dec.{eqb}
 use Rattle.coords.specs.Walk.{Coordinate, Geometry, geometry, Content, point, line, rings, members, Members, noMembers, oneMore, Parsed, ok, refused}
@@ -75,31 +76,26 @@ unfoldable pub otherCount : {A : Type 0} → List (Run A) → ℕ
 otherCount [] = 0
 otherCount (run kind cs ∷ rs) = otherIf kind + otherCount rs
 
--- the coordinates of the point runs
-unfoldable pub pointVertices : {A : Type 0} → List (Run A) → List A
-pointVertices [] = []
-pointVertices (run kind cs ∷ rs) = cond (isPoint kind) cs [] ++ pointVertices rs
+-- every run is a point run: no line and no ring has a coordinate (document 01, Words of the third property)
+unfoldable pub PointRunsOnly : {A : Type 0} → List (Run A) → Type 0
+PointRunsOnly [] = Unit {0}
+PointRunsOnly (run kind cs ∷ rs) = (isPoint kind ≡ true) × PointRunsOnly rs
 
--- both ends of each segment of a line that starts at a, a segment's start before its end
-unfoldable pub endsFrom : {A : Type 0} → A → List A → List A
-endsFrom a [] = []
-endsFrom a (b ∷ cs) = a ∷ b ∷ endsFrom b cs
+-- what the segments of a line come to, each by its start and its end: n coordinates give n - 1 segments, one gives none
+unfoldable pub segmentsBy : {A B : Type 0} → (A → A → B) → List A → List B
+segmentsBy f [] = []
+segmentsBy f (a ∷ []) = []
+segmentsBy f (a ∷ b ∷ cs) = f a b ∷ segmentsBy f (b ∷ cs)
 
--- both ends of each segment of a line: n - 1 segments, one coordinate gives nothing
+-- what the runs whose kind passes the test come to, in walk order
+unfoldable pub ofKind : {A B : Type 0} → (ℕ → Bool) → (List A → List B) → List (Run A) → List B
+ofKind test f [] = []
+ofKind test f (run kind cs ∷ rs) = cond (test kind) (f cs) [] ++ ofKind test f rs
+
+-- both ends of each segment of a line, a segment's start before its end
 unfoldable pub segmentEnds : {A : Type 0} → List A → List A
-segmentEnds [] = []
-segmentEnds (a ∷ cs) = endsFrom a cs
-
--- the ends of the line runs' segments
-unfoldable pub segmentVertices : {A : Type 0} → List (Run A) → List A
-segmentVertices [] = []
-segmentVertices (run kind cs ∷ rs) = cond (isLine kind) (segmentEnds cs) [] ++ segmentVertices rs
-
--- the coordinates of the faces
-unfoldable pub faceVertices : {A : Type 0} → List (Run A) → List A
-faceVertices [] = []
-faceVertices (run kind cs ∷ rs) = cond (isFace kind) cs [] ++ faceVertices rs
+segmentEnds cs = flatten (segmentsBy (λ a b. a ∷ b ∷ []) cs)
 
 -- all points, then both ends of every segment, then face vertices, each kind in walk order
 unfoldable pub verticesOf : {A : Type 0} → List (Run A) → List A
-verticesOf rs = pointVertices rs ++ (segmentVertices rs ++ faceVertices rs)
+verticesOf rs = ofKind isPoint (λ cs. cs) rs ++ (ofKind isLine segmentEnds rs ++ ofKind isFace (λ cs. cs) rs)

@@ -1,7 +1,6 @@
 -- A witness offered to the closest sweep's best: by its sum alone, as the first, and as the smaller of two. Assumes nothing.
-use mathlib.Core.Path.{_≡_, refl, sym, _∙_}
+use mathlib.Core.Path.{_≡_, sym, _∙_}
 use mathlib.Core.Bool.{Bool, true, false, cond, _||_, true≢false}
-use mathlib.Core.Option.{some}
 use lib.Dec.{T}
 use lib.Ieee.{Float, binary64, lt, le, eq, fits}
 use Rattle.ieee754.specs.Root.{rootOf}

@@ -1,12 +1,12 @@
--- The computed distance of two points: where it is no NaN, and when its root need not be taken. Assumes nothing.
+-- The computed distance of two points, and where it is no NaN. Assumes nothing.
 use mathlib.Core.Path.{_≡_, refl}
-use mathlib.Core.Bool.{false, not}
+use mathlib.Core.Bool.{not}
 use lib.Dec.{T}
-use lib.Ieee.{Float, binary64, sub, lt, isNan, fits}
+use lib.Ieee.{Float, binary64, sub, isNan, fits}
 use lib.Ieee.Fits.{sub-fits}
 use Rattle.ieee754.specs.Root.{rootOf}
 use Rattle.ieee754.proofs.Differences.{difference-number}
-use Rattle.ieee754.proofs.RootLaws.{root-fits, root-number, root-less-only-if-less}
+use Rattle.ieee754.proofs.RootLaws.{root-fits, root-number}
 use Rattle.ieee754.proofs.SignClear.{signClear}
 use Rattle.ieee754.proofs.SumsAndSquares.{sum-of-squares-fits, sum-of-squares-numbers, sum-of-squares-sign-clear}
 use Rattle.primitives.specs.declared.Point.{Point}
@@ -57,7 +57,3 @@ module _ (a b : Point) (n : IsNumber (betweenOf a b .d)) where
 -- a pair that counts has no NaN among its six ordinates
 pub counts-no-nan : {A : Type 0} (point : A → Point) (p : Pair A) → Counts (distanceOf point) p → NoNan (point (p .left)) × NoNan (point (p .right))
 counts-no-nan point p c = points-no-nan (point (p .left)) (point (p .right)) c
-
--- ---- a sum of squares that is not greater has no greater root, so that its root need not be taken
-pub root-not-needed : (p q a b : Point) → lt (squaredDistance p q) (squaredDistance a b) ≡ false → lt (betweenOf p q .d) (betweenOf a b .d) ≡ false
-root-not-needed p q a b h = rw (distance-is-root p q, distance-is-root a b) (root-less-only-if-less (squaredDistance p q) (squaredDistance a b) (squares-fit p q) (squares-fit a b) h)

@@ -2,7 +2,7 @@
 use mathlib.Core.Path.{_≡_, refl, sym, ap, _∙_, subst}
 use mathlib.Core.Logic.{_↔_, Iff·trans, _⊎_, inl, inr}
 use mathlib.Core.Bool.{Bool, true, false, cond}
-use mathlib.Core.List.{List, [], _∷_, _++_, foldl, map}
+use mathlib.Core.List.{List, [], _∷_, _++_, foldl, foldl-map, map}
 use mathlib.Core.Option.{Option, none, some, Option·none-ne-some, Option·some-injective}
 use Prim.Native.Nat.{ℕ, zero, suc, _<_}
 use native.Mathlib.Decide.{decLt}
@@ -14,8 +14,9 @@ use Rattle.primitives.specs.declared.Point.{Point}
 use Rattle.primitives.specs.declared.Witness.{Witness}
 use Rattle.extremes.specs.Pairs.{Pair, pairsWith, pairsOf}
 use Rattle.extremes.specs.Extreme.{measured, distanceOf, Counts, FirstAt, IsFirst, Holds}
+use Rattle.primitives.specs.Witnesses.{betterOf}
 use Rattle.extremes.specs.Sweeps.{taking}
-use Rattle.extremes.proofs.Lists.{Each, Before, each-at, before-at, fold-mapped}
+use Rattle.extremes.proofs.Lists.{Each, Before, each-at, before-at}
 use Rattle.extremes.proofs.PairLists.{no-pairs, mapPair, pairs-mapped}
 use Rattle.extremes.proofs.Senses.{Number, Sense, order-self, beats-up, beats-down}
 use Rattle.extremes.proofs.Distances.{distance-fits}
@@ -26,7 +27,7 @@ bestOf point beats s l = foldl (λ best p. taking beats best (measured point p))
 
 -- the best of all pairs of mapped vertices
 pub best-mapped : {A : Type 0} (point : A → Point) (beats : Float → Float → Bool) (ls rs : List A) → bestOf (λ v. v) beats none (pairsOf (map point ls) (map point rs)) ≡ bestOf point beats none (pairsOf ls rs)
-best-mapped point beats ls rs = ap (bestOf (λ v. v) beats none) (pairs-mapped point ls rs) ∙ fold-mapped (mapPair point) (λ best p. taking beats best (measured (λ v. v) p)) none (pairsOf ls rs)
+best-mapped point beats ls rs = ap (bestOf (λ v. v) beats none) (pairs-mapped point ls rs) ∙ foldl-map (mapPair point) (λ best p. taking beats best (measured (λ v. v) p)) (pairsOf ls rs) none
 
 -- there is one first position only
 pub first-unique : {A : Type 0} (distance : Pair A → Float) (order : Float → Float → Bool) (l : List (Pair A)) (k k′ : ℕ) (p p′ : Pair A) → FirstAt distance order l k p → FirstAt distance order l k′ p′ → k ≡ k′
@@ -107,7 +108,7 @@ module _ {A : Type 0} (point : A → Point) where
     won p (x ∷ l) c = go (beats (distance p) (distance x)) refl (λ n. won x l n) (won p l c)
       where
         go : (t : Bool) → beats (distance p) (distance x) ≡ t → (Counts distance x → Won (x ∷ l) (bestOf point beats (some (measured point x)) l)) → Won (p ∷ l) (bestOf point beats (some (measured point p)) l)
-            → Won (p ∷ x ∷ l) (bestOf point beats (cond t (some (measured point x)) (some (measured point p))) l)
+            → Won (p ∷ x ∷ l) (bestOf point beats (some (cond t (measured point x) (measured point p))) l)
         go true h v w = replaced p x l _ c h (v (σ .winner (distance p) (distance x) h))
         go false h v w = stayed p x l _ c h w
 
@@ -125,11 +126,7 @@ module _ {A : Type 0} (point : A → Point) where
     some-stays : (w : Witness) (l : List (Pair A)) → bestOf point beats (some w) l ≡ none → ⊥
     unfolding taking
     some-stays w [] h = Option·none-ne-some w (sym h)
-    some-stays w (p ∷ l) h = go (beats (w .d) (distance p)) (λ v. some-stays v l) h
-      where
-        go : (t : Bool) → ((v : Witness) → bestOf point beats (some v) l ≡ none → ⊥) → bestOf point beats (cond t (some (measured point p)) (some w)) l ≡ none → ⊥
-        go true f g = f (measured point p) g
-        go false f g = f w g
+    some-stays w (p ∷ l) h = some-stays (betterOf beats w (measured point p)) l h
 
     none-empty : (ls rs : List A) → bestOf point beats none (pairsOf ls rs) ≡ none → (ls ≡ []) ⊎ (rs ≡ [])
     unfolding taking pairsOf pairsWith

@@ -1,6 +1,6 @@
 -- A fact of each element of a list, or of each before a position; the element at a position of a mapped list. Assumes nothing.
 use mathlib.Core.Path.{_≡_, refl, subst}
-use mathlib.Core.List.{List, [], _∷_, _++_, map, foldl}
+use mathlib.Core.List.{List, [], _∷_, _++_, map}
 use mathlib.Core.Option.{some, Option·map, Option·some-injective, Option·none-ne-some}
 use Prim.Native.Nat.{ℕ, zero, suc, _<_}
 use native.Mathlib.Nat.{le-of-suc-le-suc, not-suc-le-zero}
@@ -59,15 +59,7 @@ module _ {X Y : Type 0} (f : X → Y) where
   pub all-mapped : (F : Y → Type 0) → ((x : X) → F (f x)) → (l : List X) → Each F (map f l)
   all-mapped F h l = each-mapped F l (each-all (λ (x : X). F (f x)) h l)
 
-  pub map-append : (l m : List X) → map f (l ++ m) ≡ map f l ++ map f m
-  map-append [] m = refl
-  map-append (x ∷ l) m = rw (map-append l m)
-
   pub get-mapped : (l : List X) (j : ℕ) → getElem? (map f l) j ≡ Option·map f (getElem? l j)
   get-mapped [] j = refl
   get-mapped (x ∷ l) zero = refl
   get-mapped (x ∷ l) (suc j) = get-mapped l j
-
-  pub fold-mapped : {S : Type 0} (step : S → Y → S) (s : S) (l : List X) → foldl step s (map f l) ≡ foldl (λ t x. step t (f x)) s l
-  fold-mapped step s [] = refl
-  fold-mapped step s (x ∷ l) = fold-mapped step (step s (f x)) l

@@ -1,11 +1,8 @@
 -- The list of all pairs: of mapped vertices, of an empty side, and by fold. Assumes nothing.
 use mathlib.Core.Path.{_≡_, refl, sym, ap, _∙_}
-use mathlib.Core.List.{List, [], _∷_, _++_, map, foldl, foldl-append}
-use mathlib.Core.Option.{Option·map}
-use Prim.Native.Nat.{ℕ}
-use lib.ListN.{getElem?}
+use mathlib.Core.List.{List, [], _∷_, _++_, map, map-append, foldl, foldl-append}
 use Rattle.extremes.specs.Pairs.{Pair, pairsWith, pairsOf}
-use Rattle.extremes.proofs.Lists.{Each, each-append, map-append, get-mapped}
+use Rattle.extremes.proofs.Lists.{Each, each-append}
 
 module _ {A B : Type 0} (f : A → B) where
   abbrev pub mapPair : Pair A → Pair B
@@ -23,10 +20,6 @@ module _ {A B : Type 0} (f : A → B) where
       ap (λ (l : List (Pair B)). l ++ pairsOf (map f ls) (map f rs)) (pairs-with-mapped a rs)
       ∙ ap (λ (l : List (Pair B)). map mapPair (pairsWith a rs) ++ l) (pairs-mapped ls rs)
       ∙ sym (map-append mapPair (pairsWith a rs) (pairsOf ls rs))
-
-  -- the pair at a position
-  pub pair-mapped : (ls rs : List A) (j : ℕ) → getElem? (pairsOf (map f ls) (map f rs)) j ≡ Option·map mapPair (getElem? (pairsOf ls rs) j)
-  pair-mapped ls rs j = ap (λ (l : List (Pair B)). getElem? l j) (pairs-mapped ls rs) ∙ get-mapped mapPair (pairsOf ls rs) j
 
 module _ {A : Type 0} where
   pub no-pairs : (ls : List A) → pairsOf ls [] ≡ []

@@ -3,12 +3,11 @@ use mathlib.Core.Path.{_≡_, refl, sym, ap, _∙_}
 use mathlib.Core.Bool.{Bool, true, false, cond}
 use mathlib.Core.List.{List, [], _∷_, _++_, foldl, map}
 use mathlib.Core.Option.{Option, some}
-use lib.Ieee.{Float, lt, isNan}
-use Rattle.ieee754.specs.MinMax.{minimumOf, maximumOf}
+use lib.Ieee.{Float, isNan}
 use Rattle.primitives.specs.declared.Point.{Point}
 use Rattle.primitives.specs.declared.Aabb.{Aabb}
 use Rattle.primitives.specs.Boxes.{boxOfPoint, addPoint, leastCorner, greatestCorner, unionOf}
-use Rattle.extremes.specs.Sweeps.{skipping, boxOfAll}
+use Rattle.extremes.specs.Sweeps.{skipping, longer, shorter, boxOfAll}
 
 -- the first list is the second with elements repeated in their place
 pub data Repeats {A : Type 0} : List A → List A → Type 0 where
@@ -59,49 +58,43 @@ same-cond : {X : Type 0} (b : Bool) (x : X) → cond b x x ≡ x
 same-cond true x = refl
 same-cond false x = refl
 
-minimum-self : (x : Float) → minimumOf x x ≡ x
-minimum-self x = ap (λ (y : Float). cond (isNan x) x y) (same-cond (lt x x) x) ∙ same-cond (isNan x) x
+-- minimum and maximum by what beats: NaN is dropped, of equals the first stays
+module _ (beats : Float → Float → Bool) where
+  abbrev extreme : Float → Float → Float
+  extreme a x = cond (isNan a) x (cond (beats a x) x a)
 
-maximum-self : (x : Float) → maximumOf x x ≡ x
-maximum-self x = ap (λ (y : Float). cond (isNan x) x y) (same-cond (lt x x) x) ∙ same-cond (isNan x) x
+  self : (x : Float) → extreme x x ≡ x
+  self x = ap (λ (y : Float). cond (isNan x) x y) (same-cond (beats x x) x) ∙ same-cond (isNan x) x
 
-minimum-twice : (a x : Float) → minimumOf (minimumOf a x) x ≡ minimumOf a x
-minimum-twice a x = go (isNan a) refl (lt x a) refl
-  where
-    go : (p : Bool) → isNan a ≡ p → (q : Bool) → lt x a ≡ q → minimumOf (cond p x (cond q x a)) x ≡ cond p x (cond q x a)
-    go true e q k = minimum-self x
-    go false e true k = minimum-self x
-    go false e false k = ap (λ (t : Bool). cond t x (cond (lt x a) x a)) e ∙ ap (λ (t : Bool). cond t x a) k
-
-maximum-twice : (a x : Float) → maximumOf (maximumOf a x) x ≡ maximumOf a x
-maximum-twice a x = go (isNan a) refl (lt a x) refl
-  where
-    go : (p : Bool) → isNan a ≡ p → (q : Bool) → lt a x ≡ q → maximumOf (cond p x (cond q x a)) x ≡ cond p x (cond q x a)
-    go true e q k = maximum-self x
-    go false e true k = maximum-self x
-    go false e false k = ap (λ (t : Bool). cond t x (cond (lt a x) x a)) e ∙ ap (λ (t : Bool). cond t x a) k
+  twice : (a x : Float) → extreme (extreme a x) x ≡ extreme a x
+  twice a x = go (isNan a) refl (beats a x) refl
+    where
+      go : (p : Bool) → isNan a ≡ p → (q : Bool) → beats a x ≡ q → extreme (cond p x (cond q x a)) x ≡ cond p x (cond q x a)
+      go true e q k = self x
+      go false e true k = self x
+      go false e false k = ap (λ (t : Bool). cond t x (cond (beats a x) x a)) e ∙ ap (λ (t : Bool). cond t x a) k
 
 -- a point added twice is added once
 pub add-twice : (b : Aabb) (p : Point) → addPoint (addPoint b p) p ≡ addPoint b p
 unfolding addPoint
 add-twice b p = λ i. record {
-  «lo_x» = minimum-twice (b .«lo_x») (p .x) i;
-  «lo_y» = minimum-twice (b .«lo_y») (p .y) i;
-  «lo_z» = minimum-twice (b .«lo_z») (p .z) i;
-  «hi_x» = maximum-twice (b .«hi_x») (p .x) i;
-  «hi_y» = maximum-twice (b .«hi_y») (p .y) i;
-  «hi_z» = maximum-twice (b .«hi_z») (p .z) i;
+  «lo_x» = twice shorter (b .«lo_x») (p .x) i;
+  «lo_y» = twice shorter (b .«lo_y») (p .y) i;
+  «lo_z» = twice shorter (b .«lo_z») (p .z) i;
+  «hi_x» = twice longer (b .«hi_x») (p .x) i;
+  «hi_y» = twice longer (b .«hi_y») (p .y) i;
+  «hi_z» = twice longer (b .«hi_z») (p .z) i;
 }
 
 pub add-own-point : (p : Point) → addPoint (boxOfPoint p) p ≡ boxOfPoint p
 unfolding addPoint boxOfPoint
 add-own-point p = λ i. record {
-  «lo_x» = minimum-self (p .x) i;
-  «lo_y» = minimum-self (p .y) i;
-  «lo_z» = minimum-self (p .z) i;
-  «hi_x» = maximum-self (p .x) i;
-  «hi_y» = maximum-self (p .y) i;
-  «hi_z» = maximum-self (p .z) i;
+  «lo_x» = self shorter (p .x) i;
+  «lo_y» = self shorter (p .y) i;
+  «lo_z» = self shorter (p .z) i;
+  «hi_x» = self longer (p .x) i;
+  «hi_y» = self longer (p .y) i;
+  «hi_z» = self longer (p .z) i;
 }
 
 -- the union with a point's box is the box with the point added

@@ -5,13 +5,13 @@ use mathlib.Core.Option.{Option, none, some}
 use lib.Ieee.{Float, binary64, mul, le}
 use Rattle.primitives.specs.declared.Witness.{Witness}
 use Rattle.primitives.specs.declared.Aabb.{Aabb}
-use Rattle.primitives.specs.Boxes.{leastSquaredGap}
+use Rattle.primitives.specs.Boxes.{squared, leastSquaredGap}
 use Rattle.extremes.specs.Sweeps.{skipping, shorter, taking, oneMinusSlack}
 
 -- the skip: best exists and least squared gap times (1 - 2^-49) is at least best squared
 unfoldable pub noCloser : Option Witness → Float → Bool
 noCloser none gap = false
-noCloser (some best) gap = le (mul binary64 (best .d) (best .d)) (mul binary64 gap oneMinusSlack)
+noCloser (some best) gap = le (squared (best .d)) (mul binary64 gap oneMinusSlack)
 
 -- the candidates of two items in order: the first is taken, a later one only if strictly closer
 abbrev pub offering : {I : Type 0} → (I → I → List Witness) → I → Option Witness → I → Option Witness

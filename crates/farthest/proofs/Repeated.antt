@@ -16,7 +16,7 @@ use Rattle.extremes.specs.Farthest.{noFarther, farthestFrom}
 
 -- a vertex of side 2 again, with the same vertex of side 1
 pub right-again : (a : Point) (best : Option Witness) (b : Point) → taking longer (taking longer best (betweenOf a b)) (betweenOf a b) ≡ taking longer best (betweenOf a b)
-right-again a best b = taking-again longest (λ b. betweenOf a b) (λ b. distance-fits a b) best b
+right-again a best b = taking-again longest best (betweenOf a b) (distance-fits a b)
 
 pub right-repeats : {rs qs : List Point} → Repeats rs qs → (best : Option Witness) (a : Point) → farthestFrom rs best a ≡ farthestFrom qs best a
 unfolding farthestFrom

@@ -1,7 +1,7 @@
 -- Walking each vertex of a line once, where the definition has both ends of each segment, changes no answer. Assumes nothing.
 use mathlib.Core.Path.{_≡_, refl, sym, ap, _∙_}
 use mathlib.Core.Bool.{Bool, true, false, cond, _&&_}
-use mathlib.Core.List.{List, [], _∷_}
+use mathlib.Core.List.{List, [], _∷_, flatten}
 use mathlib.Core.Option.{Option, none, some}
 use Prim.Native.Nat.{ℕ, suc}
 use lib.Dec.{eqb, ltb}
@@ -9,7 +9,7 @@ use lib.ListN.{length}
 use lib.Ieee.{isNan}
 use native.Mathlib.Omega.{arith}
 use borrow.Author.Tests.{eqb-true, le-ltb}
-use Rattle.coords.specs.Parts.{Run, run, isLine, pointVertices, endsFrom, segmentEnds, segmentVertices, faceVertices, verticesOf}
+use Rattle.coords.specs.Parts.{Run, run, isPoint, isLine, isFace, segmentsBy, ofKind, segmentEnds, verticesOf}
 use Rattle.parts.specs.Classes.{runClass}
 use Rattle.parts.proofs.Classes.{class-points, class-lines, class-faces}
 use Rattle.primitives.specs.declared.Point.{Point}
@@ -41,24 +41,20 @@ other-class kind n class z l = go (isLine kind) refl (ltb n 2)
     go false e q = refl
 
 module _ {A : Type 0} where
-  points-once : (rs : List (Run A)) → pointVertices rs ≡ classVertices 1 rs
-  unfolding pointVertices classVertices
-  points-once [] = refl
-  points-once (run kind cs ∷ rs) = rw (other-class kind (length cs) 1 refl refl, class-points kind, points-once rs)
+  -- points and faces, each by its class
+  others-once : (test : ℕ → Bool) (class : ℕ) → eqb 0 class ≡ false → eqb 2 class ≡ false → ((kind : ℕ) → eqb (runClass kind) class ≡ test kind) → (rs : List (Run A)) → ofKind test (λ cs. cs) rs ≡ classVertices class rs
+  unfolding ofKind classVertices
+  others-once test class z l is [] = refl
+  others-once test class z l is (run kind cs ∷ rs) = rw (other-class kind (length cs) class z l, is kind, others-once test class z l is rs)
 
-  faces-once : (rs : List (Run A)) → faceVertices rs ≡ classVertices 3 rs
-  unfolding faceVertices classVertices
-  faces-once [] = refl
-  faces-once (run kind cs ∷ rs) = rw (other-class kind (length cs) 3 refl refl, class-faces kind, faces-once rs)
-
-  ends-repeat : (a b : A) (cs : List A) → Repeats (endsFrom a (b ∷ cs)) (a ∷ b ∷ cs)
-  unfolding endsFrom
+  ends-repeat : (a b : A) (cs : List A) → Repeats (segmentEnds (a ∷ b ∷ cs)) (a ∷ b ∷ cs)
+  unfolding segmentEnds segmentsBy flatten
   ends-repeat a b [] = once (once done)
   ends-repeat a b (d ∷ cs) = once (again (ends-repeat b d cs))
 
   -- a line's segment ends are its coordinates, repeated; one coordinate gives none
   line-repeats : (cs : List A) → Repeats (segmentEnds cs) (cond (eqb (cond (ltb (length cs) 2) 0 2) 2) cs [])
-  unfolding segmentEnds endsFrom
+  unfolding segmentEnds segmentsBy flatten
   line-repeats [] = done
   line-repeats (a ∷ []) = done
   line-repeats (a ∷ b ∷ cs) = rw (le-ltb (suc (suc (length cs))) 2 (omega arith)) (ends-repeat a b cs)
@@ -70,15 +66,15 @@ module _ {A : Type 0} where
       go true e = unfold vertexClass in rw (eqb-true kind 2 e, line-class) (line-repeats cs)
       go false e = unfold vertexClass in rw (e, class-lines kind, e) done
 
-  lines-once : (rs : List (Run A)) → Repeats (segmentVertices rs) (classVertices 2 rs)
-  unfolding segmentVertices classVertices
+  lines-once : (rs : List (Run A)) → Repeats (ofKind isLine segmentEnds rs) (classVertices 2 rs)
+  unfolding ofKind classVertices
   lines-once [] = done
   lines-once (run kind cs ∷ rs) = repeats-append (run-repeats kind cs) (lines-once rs)
 
   -- the vertices of the definition are those that are walked, repeated in their place
   pub vertices-once : (rs : List (Run A)) → Repeats (verticesOf rs) (verticesOnce rs)
   unfolding verticesOf verticesOnce
-  vertices-once rs = rw (points-once rs, faces-once rs) (repeats-append (no-repeats (classVertices 1 rs)) (repeats-append (lines-once rs) (no-repeats (classVertices 3 rs))))
+  vertices-once rs = rw (others-once isPoint 1 refl refl class-points rs, others-once isFace 3 refl refl class-faces rs) (repeats-append (no-repeats (classVertices 1 rs)) (repeats-append (lines-once rs) (no-repeats (classVertices 3 rs))))
 
 -- ---- the box of NaNs
 

@@ -1,23 +1,21 @@
 -- How many segments runs have, and what 14 says of counts (document 01, Parts and the table). Assumes nothing.
-use mathlib.Core.Path.{_≡_, refl, sym, ap, _∙_}
-use mathlib.Core.Logic.{_⊎_, ⊎-elim}
+use mathlib.Core.Path.{_≡_, refl, sym, ap}
+use mathlib.Core.Logic.{⊎-elim}
 use mathlib.Core.Bool.{Bool, true, false, cond, _||_, true≢false}
 use mathlib.Core.List.{List, [], _∷_, _++_, map}
 use Prim.Native.Nat.{ℕ, suc, _+_, _<_, _≤_}
-use native.Mathlib.Nat.{zero-add}
 use native.Mathlib.Omega.{arith}
 use lib.Dec.{ltb, eqb}
 use lib.ListN.{length, length-append}
-use borrow.Author.Tests.{ne-eqb, eqb-true, eqb-false, lt-ltb}
+use borrow.Author.Tests.{ne-eqb, eqb-true, eqb-false, ltb-false}
 use Rattle.gpb.specs.Header.{geometryStart}
 use Rattle.coords.specs.Walk.{Coordinate, Geometry, Parsed, ok, refused, allLevels}
-use Rattle.coords.specs.Parts.{Run, run, mapRuns, walkedRuns, coordinateCount, otherCount, isPoint, isLine, isFace}
-use Rattle.coords.proofs.Parts.{map-length}
+use Rattle.coords.specs.Parts.{Run, run, mapRuns, walkedRuns, coordinateCount, otherCount, isPoint, isLine, isFace, segmentsBy, ofKind}
 use Rattle.coords.proofs.Each.{Each}
 use Rattle.coords.proofs.EachRun.{RunKind}
 use Rattle.coords.proofs.RunFacts.{HasRunKind, walk-kinds, HasSome, walk-runs-non-empty}
-use Rattle.interpolation.specs.Interpolation.{segmentsFrom, segmentsOfLine, segmentsOf}
-use Rattle.interpolation.specs.Operation.{hasPointOrFace, isNoLine}
+use Rattle.interpolation.specs.Interpolation.{segmentsOfLine, segmentsOf}
+use Rattle.interpolation.specs.Operation.{isNoLine}
 use Rattle.blob.specs.Blob.{walkOfBlob, runsOfBlob}
 use Rattle.blob.specs.Inner.{operandOf}
 use Rattle.blob.specs.declared.Operand.{Operand}
@@ -25,20 +23,16 @@ use Rattle.interpolation.specs.Inner.{noLineBy}
 
 -- ---- how many
 
-from-length : {A : Type 0} (a : A) (cs : List A) → length (segmentsFrom a cs) ≡ length cs
-unfolding segmentsFrom
-from-length a [] = refl
-from-length a (b ∷ cs) = ap suc (from-length b cs)
-
 -- a line of n gives n - 1
 line-length : {A : Type 0} (cs : List A) → 0 < length cs → length (segmentsOfLine cs) + 1 ≡ length cs
-unfolding segmentsOfLine
+unfolding segmentsBy
 line-length [] h = absurd (omega arith)
-line-length (a ∷ cs) h = omega (arith, from-length a cs)
+line-length (a ∷ []) h = refl
+line-length (a ∷ b ∷ cs) h = omega (arith, line-length (b ∷ cs) (omega arith))
 
 -- at most one for each coordinate beside a run's first
 at-most : (rs : List (Run Coordinate)) → Each HasSome rs → length (segmentsOf rs) + length rs ≤ coordinateCount rs
-unfolding segmentsOf coordinateCount
+unfolding ofKind coordinateCount
 at-most [] e = omega arith
 at-most (run k cs ∷ rs) e = go (isLine k) (at-most rs (e .1))
   where
@@ -55,24 +49,25 @@ is-line k r e =
     (λ p. absurd (true≢false (rw p at e))))) r
 
 -- exactly so many, where every run is a line
-exactly : (rs : List (Run Coordinate)) → Each HasSome rs → Each HasRunKind rs → hasPointOrFace rs ≡ false → length (segmentsOf rs) + length rs ≡ coordinateCount rs
-unfolding segmentsOf coordinateCount hasPointOrFace
+exactly : (rs : List (Run Coordinate)) → Each HasSome rs → Each HasRunKind rs → otherCount rs ≡ 0 → length (segmentsOf rs) + length rs ≡ coordinateCount rs
+unfolding ofKind coordinateCount otherCount
 exactly [] e k h = refl
 exactly (run j cs ∷ rs) e k h = go (isPoint j || isFace j) refl h (exactly rs (e .1) (k .1))
   where
-    go : (b : Bool) → (isPoint j || isFace j) ≡ b → (b || hasPointOrFace rs) ≡ false → (hasPointOrFace rs ≡ false → length (segmentsOf rs) + length rs ≡ coordinateCount rs) → length (cond (isLine j) (segmentsOfLine cs) [] ++ segmentsOf rs) + suc (length rs) ≡ length cs + coordinateCount rs
-    go true f g rest = absurd (true≢false g)
-    go false f g rest = rw (is-line j (k .0) f) (omega (arith, rest g, line-length cs (e .0), length-append (segmentsOfLine cs) (segmentsOf rs)))
+    go : (b : Bool) → (isPoint j || isFace j) ≡ b → cond b 1 0 + otherCount rs ≡ 0 → (otherCount rs ≡ 0 → length (segmentsOf rs) + length rs ≡ coordinateCount rs) → length (cond (isLine j) (segmentsOfLine cs) [] ++ segmentsOf rs) + suc (length rs) ≡ length cs + coordinateCount rs
+    go true f g rest = absurd (omega arith)
+    go false f g rest = rw (is-line j (k .0) f) (omega (arith, rest (omega arith), line-length cs (e .0), length-append (segmentsOfLine cs) (segmentsOf rs)))
 
 -- ---- coordinates that are mapped
 
 line-map : {A B : Type 0} (f : A → B) (cs : List A) → length (segmentsOfLine (map f cs)) ≡ length (segmentsOfLine cs)
-unfolding segmentsOfLine
+unfolding segmentsBy
 line-map f [] = refl
-line-map f (a ∷ cs) = from-length (f a) (map f cs) ∙ map-length f cs ∙ sym (from-length a cs)
+line-map f (a ∷ []) = refl
+line-map f (a ∷ b ∷ cs) = ap suc (line-map f (b ∷ cs))
 
 pub segments-map : {A B : Type 0} (f : A → B) (rs : List (Run A)) → length (segmentsOf (mapRuns f rs)) ≡ length (segmentsOf rs)
-unfolding segmentsOf mapRuns
+unfolding ofKind mapRuns
 segments-map f [] = refl
 segments-map f (run k cs ∷ rs) = go (isLine k) (segments-map f rs)
   where
@@ -85,7 +80,7 @@ segments-map f (run k cs ∷ rs) = go (isLine k) (segments-map f rs)
 -- what is no reason for 14 has a segment
 pub has-segment : {A : Type 0} (rs : List (Run A)) → isNoLine rs ≡ false → 0 < length (segmentsOf rs)
 unfolding isNoLine
-has-segment rs h = go (hasPointOrFace rs) h
+has-segment rs h = go (ltb 0 (otherCount rs)) h
   where
     go : (b : Bool) → (b || eqb (length (segmentsOf rs)) 0) ≡ false → 0 < length (segmentsOf rs)
     go true e = absurd (true≢false e)
@@ -94,15 +89,6 @@ has-segment rs h = go (hasPointOrFace rs) h
 or-true : (b : Bool) → true ≡ (b || true)
 or-true true = refl
 or-true false = refl
-
-has-others : {A : Type 0} (rs : List (Run A)) → hasPointOrFace rs ≡ ltb 0 (otherCount rs)
-unfolding hasPointOrFace otherCount
-has-others [] = refl
-has-others (run k cs ∷ rs) = go (isPoint k || isFace k) (has-others rs)
-  where
-    go : (b : Bool) → hasPointOrFace rs ≡ ltb 0 (otherCount rs) → (b || hasPointOrFace rs) ≡ ltb 0 (cond b 1 0 + otherCount rs)
-    go true h = sym (lt-ltb 0 (1 + otherCount rs) (omega arith))
-    go false h = h ∙ rw (zero-add (otherCount rs))
 
 -- by the numbers of an operand
 module _ (s : List ℕ) (v : Operand) (own : v ≡ operandOf s) where
@@ -119,14 +105,14 @@ module _ (s : List ℕ) (v : Operand) (own : v ≡ operandOf s) where
   by-numbers true e =
       -- one coordinate for each run: no segment
       let z : length (segmentsOf (runsOfBlob s)) ≡ 0 = omega (arith, at-most (runsOfBlob s) (facts .0), eqb-true (coordinateCount (runsOfBlob s)) (length (runsOfBlob s)) e) in
-      rw z (sym (or-true (hasPointOrFace (runsOfBlob s))))
-  by-numbers false e = go (hasPointOrFace (runsOfBlob s)) refl ∙ has-others (runsOfBlob s)
+      rw z (sym (or-true (ltb 0 (otherCount (runsOfBlob s)))))
+  by-numbers false e = go (ltb 0 (otherCount (runsOfBlob s))) refl
     where
       -- otherwise a point or face decides
-      go : (b : Bool) → hasPointOrFace (runsOfBlob s) ≡ b → (hasPointOrFace (runsOfBlob s) || eqb (length (segmentsOf (runsOfBlob s))) 0) ≡ hasPointOrFace (runsOfBlob s)
+      go : (b : Bool) → ltb 0 (otherCount (runsOfBlob s)) ≡ b → (ltb 0 (otherCount (runsOfBlob s)) || eqb (length (segmentsOf (runsOfBlob s))) 0) ≡ ltb 0 (otherCount (runsOfBlob s))
       go true h = rw h
       go false h =
-          rw h (ne-eqb (length (segmentsOf (runsOfBlob s))) 0 (λ z. eqb-false (coordinateCount (runsOfBlob s)) (length (runsOfBlob s)) e (omega (arith, z, exactly (runsOfBlob s) (facts .0) (facts .1) h))))
+          rw h (ne-eqb (length (segmentsOf (runsOfBlob s))) 0 (λ z. eqb-false (coordinateCount (runsOfBlob s)) (length (runsOfBlob s)) e (omega (arith, z, exactly (runsOfBlob s) (facts .0) (facts .1) (omega (arith, ltb-false 0 (otherCount (runsOfBlob s)) h))))))
 
   pub no-line-is : isNoLine (runsOfBlob s) ≡ noLineBy (v .coords) (v .runs) (v .others)
   no-line-is = rw own (by-numbers (eqb (coordinateCount (runsOfBlob s)) (length (runsOfBlob s))) refl)

@@ -8,21 +8,22 @@ use lib.Dec.{eqb}
 use lib.ListN.{length, drop}
 use lib.Ieee.{Float}
 use borrow.Author.Tests.{eq-eqb, ne-eqb}
+use Rattle.coords.specs.Parts.{segmentsBy, ofKind}
 use Rattle.workspace.specs.Workspace.{floatsPerCoordinate, numbersPerRun}
 use Rattle.parts.specs.Stored.{pointAt, pointsFrom, runsFrom, storedRuns, runCount, kindAt, countAt, pointCount, Laid}
 use Rattle.parts.proofs.Turns.{points-next, runs-next, runs-none, count-next}
 use Rattle.primitives.specs.declared.Point.{Point}
-use Rattle.interpolation.specs.Interpolation.{Segment, segment, segmentsFrom, segmentsOfLine, segmentsOf}
+use Rattle.interpolation.specs.Interpolation.{Segment, segment, segmentsOfLine, segmentsOf}
 
 -- ---- the segments of a line
 
 module _ (floats : List Float) (at n : ℕ) where
   line-next : 1 < n → segmentsOfLine (pointsFrom floats at n) ≡ segment (pointAt floats at) (pointAt floats (at + 1)) ∷ segmentsOfLine (pointsFrom floats (at + 1) (n - 1))
-  unfolding segmentsOfLine segmentsFrom
+  unfolding segmentsBy
   line-next h = rw (points-next floats at n (omega arith), points-next floats (at + 1) (n - 1) (omega arith))
 
   line-done : n ≤ 1 → segmentsOfLine (pointsFrom floats at n) ≡ []
-  unfolding segmentsOfLine segmentsFrom pointsFrom
+  unfolding segmentsBy pointsFrom
   line-done h = go n h
     where
       go : (k : ℕ) → k ≤ 1 → segmentsOfLine (pointsFrom floats at k) ≡ []
@@ -56,7 +57,7 @@ unfolding Laid
 room-start table floats h = omega (arith, h)
 
 pub runs-end : (table : List ℕ) (floats : List Float) (r at runs : ℕ) → runs ≡ runCount table → runs ≤ r → segmentsLeft table floats r at ≡ []
-unfolding segmentsOf
+unfolding ofKind
 runs-end table floats r at runs e h = rw (runs-none floats at table r (rw e at h))
 
 -- run r has n points and kind k; there is a run r
@@ -65,7 +66,7 @@ module _ (table : List ℕ) (floats : List Float) (r at n k runs : ℕ) (count :
   there = rw all at h
 
   run-next : (b : Bool) → eqb k 2 ≡ b → segmentsLeft table floats r at ≡ cond b (segmentsOfLine (pointsFrom floats at n)) [] ++ segmentsLeft table floats (r + 1) (at + n)
-  unfolding segmentsOf
+  unfolding ofKind
   run-next b e = rw (count, runs-next table r there floats at, ← is, e)
 
   module _ {S : Type 0} (step : S → Segment Point → S) (s : S) where

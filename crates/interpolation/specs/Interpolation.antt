@@ -1,10 +1,10 @@
 -- The point at a fraction of a line's length (document 01, Interpolation), each IEEE 754 operation rounded once, in the Rust's order. Definitions only.
 use mathlib.Core.Bool.{cond}
-use mathlib.Core.List.{List, [], _∷_, _++_, foldl}
+use mathlib.Core.List.{List, [], _∷_, foldl}
 use mathlib.Core.Option.{Option, none, some}
 use lib.Ieee.{Float, binary64, add, sub, mul, div, eq, le}
 use Rattle.ieee754.specs.MinMax.{positiveZero, clampOf}
-use Rattle.coords.specs.Parts.{Run, run, isLine}
+use Rattle.coords.specs.Parts.{Run, isLine, segmentsBy, ofKind}
 use Rattle.primitives.specs.declared.Point.{Point}
 use Rattle.primitives.specs.Vectors.{differenceOf, normOf, interpolatedOf}
 
@@ -17,20 +17,13 @@ pub record Segment (A : Type 0) : Type 0 where
 abbrev pub segment : {A : Type 0} → A → A → Segment A
 segment a b = record { start = a; end = b }
 
--- the segments of a line that goes on from a
-unfoldable pub segmentsFrom : {A : Type 0} → A → List A → List (Segment A)
-segmentsFrom a [] = []
-segmentsFrom a (b ∷ cs) = segment a b ∷ segmentsFrom b cs
-
--- a line of n gives n - 1 segments; one of 1 gives nothing
-unfoldable pub segmentsOfLine : {A : Type 0} → List A → List (Segment A)
-segmentsOfLine [] = []
-segmentsOfLine (a ∷ cs) = segmentsFrom a cs
+-- the segments of a line
+abbrev pub segmentsOfLine : {A : Type 0} → List A → List (Segment A)
+segmentsOfLine cs = segmentsBy segment cs
 
 -- the segments of the line runs, in walk order
-unfoldable pub segmentsOf : {A : Type 0} → List (Run A) → List (Segment A)
-segmentsOf [] = []
-segmentsOf (run kind cs ∷ rs) = cond (isLine kind) (segmentsOfLine cs) [] ++ segmentsOf rs
+abbrev pub segmentsOf : {A : Type 0} → List (Run A) → List (Segment A)
+segmentsOf rs = ofKind isLine segmentsOfLine rs
 
 -- ---- lengths
 

@@ -1,7 +1,7 @@
 -- The outcome of st_3d_line_interpolate_point for every input: report, workspace, output (document 01, Interpolation, the table and "Order").
 -- Undecided is only the payload, sign included, of a NaN in the workspace: the model of floats has one NaN. Definitions only.
 use Prim.Native.Nat.{ℕ}
-use mathlib.Core.Bool.{Bool, false, _&&_, _||_, not}
+use mathlib.Core.Bool.{Bool, _&&_, _||_, not}
 use mathlib.Core.List.{List, [], _∷_, _++_}
 use mathlib.Core.Option.{Option, none, some}
 use lib.Dec.{ltb, eqb}
@@ -12,7 +12,7 @@ use Rattle.refusals.specs.Checks.{Check, check, firstOf, onSide}
 use Rattle.refusals.specs.declared.Refusal.{Refusal}
 use Rattle.gpb.specs.Header.{geometryStart, sridOf, headerChecks}
 use Rattle.gpb.specs.Written.{pointBytes, pointBlob}
-use Rattle.coords.specs.Parts.{Run, run, mapRuns, isPoint, isFace}
+use Rattle.coords.specs.Parts.{Run, mapRuns, otherCount}
 use Rattle.coords.specs.Refusals.{walkChecks}
 use Rattle.workspace.specs.Workspace.{tooSmall, floatsWith, tableWith}
 use Rattle.blob.specs.Blob.{runsOfBlob}
@@ -31,14 +31,9 @@ use Rattle.interpolation.specs.declared.Interpolated.the-variants as int
 unfoldable pub outOfRange : Float → Bool
 outOfRange fraction = not (le positiveZero fraction && le fraction one)
 
--- a point or face
-unfoldable pub hasPointOrFace : {A : Type 0} → List (Run A) → Bool
-hasPointOrFace [] = false
-hasPointOrFace (run kind cs ∷ rs) = (isPoint kind || isFace kind) || hasPointOrFace rs
-
 -- 14: a point or face, or no segment
 unfoldable pub isNoLine : {A : Type 0} → List (Run A) → Bool
-isNoLine rs = hasPointOrFace rs || eqb (length (segmentsOf rs)) 0
+isNoLine rs = ltb 0 (otherCount rs) || eqb (length (segmentsOf rs)) 0
 
 -- ---- the order: 2; the header, 3 to 10, with no Z test; the walk; 14; 15; 16
 

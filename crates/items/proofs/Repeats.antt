@@ -9,9 +9,9 @@ use Rattle.primitives.specs.declared.Witness.{Witness}
 use Rattle.extremes.proofs.Lists.{Each}
 use Rattle.extremes.proofs.Taking.{BestFits}
 use Rattle.measures.specs.InnerOffers.{offeredAll, AllSettled}
-use Rattle.measures.proofs.NotBelowZero.{Distant, flipped, point-triangle}
+use Rattle.measures.proofs.NotBelowZero.{Distant, point-triangle}
 use Rattle.measures.proofs.Settled.{offered-settled}
-use Rattle.measures.proofs.TwoTriangles.{settled-first, settled-second, shared-first-distant, shared-second-distant}
+use Rattle.measures.proofs.TwoTriangles.{settled-first, settled-second, shared-first-distant}
 use Rattle.items.specs.Items.{Item, point, segment, triangle}
 use Rattle.items.specs.Candidates.{candidatesOf}
 use Rattle.items.specs.Inner.{itemAt}
@@ -78,11 +78,3 @@ first-distant (segment s e) (triangle a b c) = (point-triangle s a b c, tt)
 first-distant (triangle a b c) (point q) = tt
 first-distant (triangle a b c) (segment s e) = tt
 first-distant (triangle a b c) (triangle d e f) = shared-first-distant a b d e f
-
-pub second-distant : (o i : Item) → Each Distant (secondBefore o i)
-unfolding secondBefore
-second-distant (point p) i = tt
-second-distant (segment s e) i = tt
-second-distant (triangle a b c) (point q) = tt
-second-distant (triangle a b c) (segment s e) = (flipped _ (point-triangle s a b c), tt)
-second-distant (triangle a b c) (triangle d e f) = shared-second-distant a b c d e

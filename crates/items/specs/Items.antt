@@ -1,12 +1,12 @@
 -- What the closest sweep pairs off: points, segments and triangles (document 01, Parts, Pair measures, Closest sweep). Definitions only.
-use Prim.Native.Nat.{ℕ}
-use mathlib.Core.Bool.{Bool, cond}
 use mathlib.Core.List.{List, [], _∷_, _++_, map, foldl}
 use mathlib.Core.Option.{Option, none, some}
-use Rattle.coords.specs.Parts.{Run, run, isPoint, isLine, isFace}
+use Rattle.coords.specs.Parts.{Run, isPoint, isLine, isFace, segmentsBy}
 use Rattle.primitives.specs.declared.Point.{Point}
 use Rattle.primitives.specs.declared.Aabb.{Aabb}
 use Rattle.primitives.specs.Boxes.{boxOfPoint, unionOf}
+-- the items of the runs of a kind: what these runs come to
+unfoldable pub use Rattle.coords.specs.Parts.{ofKind as itemsOfKind}
 
 pub data Item : Type 0 where
   point : Point → Item
@@ -19,33 +19,16 @@ pub data Item : Type 0 where
 unfoldable pub pointsOf : List Point → List Item
 pointsOf ps = map point ps
 
--- the segments of a line that starts at a
-unfoldable pub segmentsFrom : Point → List Point → List Item
-segmentsFrom a [] = []
-segmentsFrom a (b ∷ ps) = segment a b ∷ segmentsFrom b ps
-
--- a line run of n gives n - 1 segments; one of 1 gives nothing
+-- a line run gives its segments
 unfoldable pub segmentsOf : List Point → List Item
-segmentsOf [] = []
-segmentsOf (a ∷ ps) = segmentsFrom a ps
+segmentsOf ps = segmentsBy segment ps
 
--- the triangles of a fan from a whose next edge starts at b
-unfoldable pub fanFrom : Point → Point → List Point → List Item
-fanFrom a b [] = []
-fanFrom a b (c ∷ ps) = triangle a b c ∷ fanFrom a c ps
-
--- a face fans from its first vertex; under 3 vertices there is no triangle (document 01, Pair measures)
+-- a face fans from its first vertex, a triangle for each segment of the others; under 3 vertices there is none (document 01, Pair measures)
 unfoldable pub trianglesOf : List Point → List Item
 trianglesOf [] = []
-trianglesOf (a ∷ []) = []
-trianglesOf (a ∷ b ∷ ps) = fanFrom a b ps
+trianglesOf (a ∷ ps) = segmentsBy (triangle a) ps
 
 -- ---- the items of all runs (document 01, Closest sweep)
-
--- the items of each run whose kind passes the test, in walk order
-unfoldable pub itemsOfKind : (ℕ → Bool) → (List Point → List Item) → List (Run Point) → List Item
-itemsOfKind test items [] = []
-itemsOfKind test items (run kind ps ∷ rs) = cond (test kind) (items ps) [] ++ itemsOfKind test items rs
 
 -- points, segments, triangles
 unfoldable pub itemsOf : List (Run Point) → List Item

@@ -1,14 +1,14 @@
 -- What was offered once changes nothing when it is offered again, however many came between. Assumes nothing.
 use mathlib.Core.Path.{_≡_, refl, sym, ap, _∙_}
-use mathlib.Core.Bool.{Bool, true, false, cond}
+use mathlib.Core.Bool.{Bool, true, false}
 use mathlib.Core.List.{List, [], _∷_}
 use mathlib.Core.Option.{Option, none, some, Option·some-injective, Option·none-ne-some}
 use lib.Ieee.{lt}
 use Rattle.primitives.specs.declared.Witness.{Witness}
 use Rattle.extremes.specs.Sweeps.{shorter, taking}
 use Rattle.extremes.proofs.Lists.{Each}
-use Rattle.extremes.proofs.Senses.{shortest, not-itself, still-beaten}
-use Rattle.extremes.proofs.Taking.{BestFits, Unbeaten, unbeaten-stays, taking-fits, taking-again}
+use Rattle.extremes.proofs.Senses.{shortest, not-itself}
+use Rattle.extremes.proofs.Taking.{BestFits, Unbeaten, unbeaten-stays, unbeaten-later, taking-fits, taking-again}
 use Rattle.measures.specs.InnerOffers.{offeredAll, AllSettled}
 use Rattle.measures.proofs.NotBelowZero.{Distant}
 
@@ -24,25 +24,16 @@ settled-unbeaten (some best) w f e = go (lt (w .d) (best .d)) refl
     go false k = k
     go true k = ap (λ (v : Witness). lt (v .d) (best .d)) (Option·some-injective w best (rw k at e)) ∙ not-itself shortest (best .d) f
 
-unbeaten-later : (s : Option Witness) (w v : Witness) → BestFits s → Distant w → Distant v → Unbeaten shorter s w → Unbeaten shorter (taking shorter s v) w
-unfolding taking
-unbeaten-later none w v f h k u = absurd u
-unbeaten-later (some best) w v f h k u = go (lt (v .d) (best .d)) refl
-  where
-    go : (t : Bool) → lt (v .d) (best .d) ≡ t → Unbeaten shorter (cond t (some v) (some best)) w
-    go true e = still-beaten shortest (best .d) (v .d) (w .d) f (k .fit) (h .fit) e u
-    go false e = u
-
 -- what changes nothing changes nothing after another
 pub stays : (s : Option Witness) (w v : Witness) → BestFits s → Distant w → Distant v → taking shorter s w ≡ s → taking shorter (taking shorter s v) w ≡ taking shorter s v
-stays s w v f h k e = unbeaten-stays shorter (taking shorter s v) w (unbeaten-later s w v f h k (settled-unbeaten s w f e))
+stays s w v f h k e = unbeaten-stays shorter (taking shorter s v) w (unbeaten-later shortest s w v f (h .fit) (k .fit) (settled-unbeaten s w f e))
 
 -- what was offered changes nothing
 pub again : (s : Option Witness) (w : Witness) → Distant w → taking shorter (taking shorter s w) w ≡ taking shorter s w
-again s w h = taking-again shortest (λ (u : Unit {0}). w) (λ u. h .fit) s tt
+again s w h = taking-again shortest s w (h .fit)
 
 pub still-fits : (s : Option Witness) (w : Witness) → BestFits s → Distant w → BestFits (taking shorter s w)
-still-fits s w f h = taking-fits shortest (λ (u : Unit {0}). w) (λ u. h .fit) s tt f
+still-fits s w f h = taking-fits shortest s w (h .fit) f
 
 -- what was offered changes nothing after another
 pub again-later : (s : Option Witness) (w v : Witness) → BestFits s → Distant w → Distant v → taking shorter (taking shorter (taking shorter s w) v) w ≡ taking shorter (taking shorter s w) v

@@ -24,22 +24,13 @@ not-less-through x m y f n g h k = go (lt y x) refl
         (le-transitive x m y f (n .fit) g (not-lt→le m x (n .real) (lt-number-right y x e) (n .fit) f k)
         (not-lt→le y m (lt-number-left y x e) (n .real) g (n .fit) h))
 
--- of a witness that was found and another, the smaller is kept
-smaller-kept : (best w : Witness) → some (smallerOf best w) ≡ taking shorter (some best) w
-unfolding smallerOf taking
-smaller-kept best w = go (lt (w .d) (best .d))
-  where
-    go : (b : Bool) → some (cond b w best) ≡ cond b (some w) (some best)
-    go true = refl
-    go false = refl
-
 -- the smaller of two, offered, is the first offered and then the second, where the first is no NaN
 smaller-offered : (s : Option Witness) (m w : Witness) → BestFits s → Number (m .d) → T (fits binary64 (w .d)) → taking shorter s (smallerOf m w) ≡ taking shorter (taking shorter s m) w
 unfolding taking smallerOf
-smaller-offered none m w f n g = unfold smallerOf in smaller-kept m w
+smaller-offered none m w f n g = refl
 smaller-offered (some best) m w f n g = go (lt (w .d) (m .d)) (lt (m .d) (best .d)) refl refl
   where
-    go : (a b : Bool) → lt (w .d) (m .d) ≡ a → lt (m .d) (best .d) ≡ b → taking shorter (some best) (cond a w m) ≡ taking shorter (cond b (some m) (some best)) w
+    go : (a b : Bool) → lt (w .d) (m .d) ≡ a → lt (m .d) (best .d) ≡ b → taking shorter (some best) (cond a w m) ≡ taking shorter (some (cond b m best)) w
     go true true h k = rw (h, lt-transitive (w .d) (m .d) (best .d) g (n .fit) f h k)
     go true false h k = refl
     go false true h k = rw (h, k)

@@ -13,7 +13,7 @@ use Rattle.gpb.specs.Written.{pointBytes}
 use Rattle.coords.specs.Walk.{Parsed, Geometry}
 use Rattle.coords.specs.Parts.{mapRuns, walkedRuns, coordinateCount, verticesOf}
 use Rattle.coords.specs.Refusals.{walkChecks}
-use Rattle.coords.proofs.Parts.{vertices-map}
+use Rattle.coords.proofs.Parts.{vertices-map, count-map, runs-map}
 use Rattle.blob.specs.Blob.{walkOfBlob, runsOfBlob}
 use Rattle.blob.specs.Ignored.{SameButIgnored}
 use Rattle.blob.proofs.Ignored.{ignored-changes-nothing}
@@ -29,21 +29,29 @@ use Rattle.outcomes.specs.Alike.{MeasuredAlike, AnswersAlike}
 
 -- a blob that differs from another in what is ignored alone is measured alike
 pub ignored-measured-alike : (s t : List ℕ) → SameButIgnored s t → MeasuredAlike s t
+unfolding walkChecks
 ignored-measured-alike s t h =
     let r = ignored-changes-nothing s t h in
     record {
       header = ap firstOf (r .header);
       header-3d = ap firstOf (r .header-3d);
-      walk = ap firstOf (r .walk-refusals);
+      walk = rw (r .walk);
       srid = r .srid;
-      coordinates = ap (λ (w : Parsed Geometry). coordinateCount (walkedRuns w)) (r .walk);
-      runs = ap (λ (w : Parsed Geometry). length (walkedRuns w)) (r .walk);
       points = ap (λ (w : Parsed Geometry). mapRuns pointOf (walkedRuns w)) (r .walk);
     }
 
 -- every blob is measured as itself: the law for one side is that for both
 pub measured-as-itself : (s : List ℕ) → MeasuredAlike s s
-measured-as-itself s = record { header = refl; header-3d = refl; walk = refl; srid = refl; coordinates = refl; runs = refl; points = refl }
+measured-as-itself s = record { header = refl; header-3d = refl; walk = refl; srid = refl; points = refl }
+
+-- ---- counts
+
+module _ (s t : List ℕ) (same : MeasuredAlike s t) where
+  pub coordinates-alike : coordinateCount (runsOfBlob s) ≡ coordinateCount (runsOfBlob t)
+  coordinates-alike = sym (count-map pointOf (runsOfBlob s)) ∙ (ap coordinateCount (same .points) ∙ count-map pointOf (runsOfBlob t))
+
+  pub runs-alike : length (runsOfBlob s) ≡ length (runsOfBlob t)
+  runs-alike = sym (runs-map pointOf (runsOfBlob s)) ∙ (ap length (same .points) ∙ runs-map pointOf (runsOfBlob t))
 
 -- ---- refusals
 
@@ -85,7 +93,7 @@ module _ (a a′ b b′ : List ℕ) (first : MeasuredAlike a a′) (second : Mea
         (two-alike _ _ _ _ (side-alike 2 _ _ (second .header-3d))
         (two-alike _ _ _ _ (side-alike 1 _ _ (first .walk))
         (two-alike _ _ _ _ (side-alike 2 _ _ (second .walk))
-        (rw (first .coordinates, first .runs, second .coordinates, second .runs)))))
+        (rw (coordinates-alike a a′ first, runs-alike a a′ first, coordinates-alike b b′ second, runs-alike b b′ second)))))
 
     line-alike : (lent : List ℕ) → firstOf (lineChecks a b w lent) ≡ firstOf (lineChecks a′ b′ w lent)
     unfolding lineChecks

@@ -12,7 +12,7 @@ use Rattle.refusals.specs.declared.Refusal.{Refusal}
 use Rattle.gpb.specs.Header.{sridOf}
 use Rattle.gpb.proofs.Bounds.{srid-fits}
 use Rattle.coords.specs.Walk.{Coordinate, Geometry, Parsed, ok, refused, allLevels}
-use Rattle.coords.specs.Parts.{walkedRuns, verticesOf, pointVertices, segmentVertices, faceVertices}
+use Rattle.coords.specs.Parts.{walkedRuns, verticesOf, ofKind}
 use Rattle.coords.proofs.Each as coords-each
 use Rattle.coords.proofs.RunFacts.{Patterns, vertex-patterns}
 use Rattle.primitives.specs.declared.Witness.{Witness}
@@ -82,7 +82,7 @@ nothing-exactly (some w) = (λ e. cc, λ e. cc)
 -- ---- vertices of bytes
 
 walked-patterns : (s : List ℕ) → ((i : ℕ) → getD s i 0 < 256) → (w : Parsed Geometry) → walkOfBlob s ≡ w → coords-each.Each Patterns (verticesOf (walkedRuns w))
-unfolding walkedRuns verticesOf pointVertices segmentVertices faceVertices
+unfolding walkedRuns verticesOf ofKind
 walked-patterns s bytes (ok g end) e = vertex-patterns s bytes allLevels _ g end e
 walked-patterns s bytes (refused k) e = tt
 

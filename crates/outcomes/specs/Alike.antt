@@ -3,23 +3,20 @@
 use Prim.Native.Nat.{ℕ}
 use mathlib.Core.Path.{_≡_}
 use mathlib.Core.List.{List}
-use lib.ListN.{length}
 use Rattle.refusals.specs.Checks.{firstOf}
 use Rattle.gpb.specs.Header.{geometryStart, sridOf, headerChecks, headerChecks3d}
-use Rattle.coords.specs.Parts.{mapRuns, coordinateCount}
+use Rattle.coords.specs.Parts.{mapRuns}
 use Rattle.coords.specs.Refusals.{walkChecks}
 use Rattle.blob.specs.Blob.{runsOfBlob}
 use Rattle.parts.specs.Points.{pointOf}
 use Rattle.outcomes.specs.Operations.{Outcome}
 
--- the same refusals, SRID, needs of lent memory, and points of runs
+-- the same refusals, SRID and points of runs, and so the same needs of lent memory
 pub record MeasuredAlike (s t : List ℕ) : Type 0 where
   pub header : firstOf (headerChecks s) ≡ firstOf (headerChecks t)
   pub header-3d : firstOf (headerChecks3d s) ≡ firstOf (headerChecks3d t)
   pub walk : firstOf (walkChecks s (geometryStart s)) ≡ firstOf (walkChecks t (geometryStart t))
   pub srid : sridOf s ≡ sridOf t
-  pub coordinates : coordinateCount (runsOfBlob s) ≡ coordinateCount (runsOfBlob t)
-  pub runs : length (runsOfBlob s) ≡ length (runsOfBlob t)
   pub points : mapRuns pointOf (runsOfBlob s) ≡ mapRuns pointOf (runsOfBlob t)
 
 -- two calls answer alike: the same report, the same output (workspaces hold all that is read, and may differ in what is not measured)

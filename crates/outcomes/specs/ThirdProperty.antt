@@ -2,15 +2,15 @@
 use Prim.Native.Nat.{ℕ}
 use mathlib.Core.Path.{_≡_}
 use mathlib.Core.List.{List, [], _∷_}
-use mathlib.Core.Bool.{Bool, false}
-use mathlib.Core.Option.{none, some}
-use lib.ListN.{take, getElem?}
+use mathlib.Core.Bool.{Bool}
+use mathlib.Core.Option.{none}
+use lib.ListN.{take}
 use lib.Ieee.{Float}
 use Rattle.refusals.specs.Checks.{firstOf}
 use Rattle.gpb.specs.Header.{headerChecks3d}
 use Rattle.gpb.specs.Written.{lineBytes}
 use Rattle.coords.specs.Walk.{Coordinate, Geometry, ok}
-use Rattle.coords.specs.Parts.{Run, run, runsOf, isLine, isFace}
+use Rattle.coords.specs.Parts.{run, runsOf, PointRunsOnly}
 use Rattle.parts.specs.Points.{pointOf}
 use Rattle.blob.specs.Blob.{walkOfBlob, runsOfBlob}
 use Rattle.extremes.specs.Pairs.{Pair}
@@ -37,11 +37,6 @@ pub record ReadsBack (output : List ℕ) (p : Pair Coordinate) : Type 0 where
   pub first : SameBits start (p .left)
   pub second : SameBits finish (p .right)
 
--- a blob in which no line or ring has a coordinate holds point runs only: its runs are those that have a coordinate
-pub record PointRunsOnly (s : List ℕ) : Type 0 where
-  pub no-line : (i kind : ℕ) (cs : List Coordinate) → getElem? (runsOfBlob s) i ≡ some (run kind cs) → isLine kind ≡ false
-  pub no-ring : (i kind : ℕ) (cs : List Coordinate) → getElem? (runsOfBlob s) i ≡ some (run kind cs) → isFace kind ≡ false
-
 -- How a call tells its answer: an operation by a report, an export by its reply. `noLine` and `aLine` are what it tells
 -- where there is no line and where one is written.
 module _ {R : Type 0} (noLine aLine : R) where
@@ -63,4 +58,5 @@ module _ {R : Type 0} (noLine aLine : R) where
 
   -- of an accepted shortest-line call whose two blobs hold point runs only
   pub record ShortestOfPoints (a b : List ℕ) (w : Workspaces) (lent : List ℕ) (told : R) (output : List ℕ) : Type 0 where
-    pub accepted : firstOf (lineChecks a b w lent) ≡ none → PointRunsOnly a → PointRunsOnly b → FirstExtremeLine atLeast a b told output
+    pub accepted : firstOf (lineChecks a b w lent) ≡ none → PointRunsOnly (runsOfBlob a) → PointRunsOnly (runsOfBlob b)
+        → FirstExtremeLine atLeast a b told output

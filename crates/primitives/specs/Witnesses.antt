@@ -1,5 +1,5 @@
 -- A witness is a distance with its two points (document 01, Witness and boxes). Definitions only.
-use mathlib.Core.Bool.{cond}
+use mathlib.Core.Bool.{Bool, cond}
 use lib.Ieee.{Float, lt}
 use Rattle.ieee754.specs.Root.{rootOf}
 use Rattle.primitives.specs.declared.Point.{Point}
@@ -14,9 +14,21 @@ witnessOf d a b = record { d = d; ax = a .x; ay = a .y; az = a .z; bx = b .x; by
 unfoldable pub betweenOf : Point → Point → Witness
 betweenOf a b = witnessOf (rootOf (squaredDistance a b)) a b
 
--- the smaller of two is the second only if strictly less
+-- what beats a distance: for the longer one what is strictly greater (document 01, Farthest sweep)
+abbrev pub longer : Float → Float → Bool
+longer best new = lt best new
+
+-- for the shorter one what is strictly less
+abbrev pub shorter : Float → Float → Bool
+shorter best new = lt new best
+
+-- the second of two only if its distance beats the first's
+abbrev pub betterOf : (Float → Float → Bool) → Witness → Witness → Witness
+betterOf beats w other = cond (beats (w .d) (other .d)) other w
+
+-- the smaller of two
 unfoldable pub smallerOf : Witness → Witness → Witness
-smallerOf w other = cond (lt (other .d) (w .d)) other w
+smallerOf w other = betterOf shorter w other
 
 -- the point on the first side
 unfoldable pub firstPoint : Witness → Point

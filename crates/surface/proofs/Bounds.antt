@@ -18,7 +18,7 @@ use Rattle.coords.specs.declared.ParsedHeader.{ParsedHeader}
 use Rattle.coords.specs.declared.ParsedHeader.the-variants as header
 use Rattle.coords.proofs.Each.{Each, each-at}
 use Rattle.coords.proofs.Ends.{AfterFive, header-after, Within, line-within, list-within}
-use Rattle.surface.specs.Patches.{Range, rangeFrom, patchFrom, patchAt, patchesFrom, kindByType, kindByHeader, surfaceKind, surfaceByKind, surfaceOf, Patch, part, nothing, noSurface, refusing, patchThere, patchIn, patchOfSurface, patchOf, patchScanned, nextByKind, nextOf}
+use Rattle.surface.specs.Patches.{Range, rangeFrom, patchFrom, patchAt, patchesFrom, kindByNumber, kindByHeader, surfaceKind, surfaceByKind, surfaceOf, Patch, part, nothing, noSurface, refusing, patchThere, patchIn, patchOfSurface, patchOf, patchScanned, nextByKind, nextOf}
 use Rattle.surface.specs.declared.SurfaceKind.{SurfaceKind}
 use Rattle.surface.specs.declared.SurfaceKind.the-variants as kind
 
@@ -78,7 +78,7 @@ module _ (s : List ℕ) where
   Starts kind.NoSurface = Unit
 
   kind-starts : Starts (surfaceKind s)
-  unfolding surfaceKind kindByHeader kindByType Starts
+  unfolding surfaceKind kindByHeader kindByNumber Starts
   kind-starts = go (headerOf s) refl
     where
       by-type : (b c : Bool) (at : ℕ) → at ≤ length s → Starts (cond b (kind.Collection at) (cond c (kind.Triangle at) kind.NoSurface))

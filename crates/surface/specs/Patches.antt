@@ -49,14 +49,12 @@ patchesFrom s (header.Read h) = listAt _∷_ [] (patchAt s) (h .little) s (h .bo
 patchesFrom s (header.Refused k) = refused k
 
 -- kinds 15 and 16 are collections of patches, 17 is a triangle; no other kind is a surface
-unfoldable pub kindByType : ℕ → ℕ → SurfaceKind
-kindByType code at =
-    cond (eqb (kindOf code) 15 || eqb (kindOf code) 16) (kind.Collection at)
-    (cond (eqb (kindOf code) 17) (kind.Triangle at) kind.NoSurface)
+unfoldable pub kindByNumber : ℕ → ℕ → SurfaceKind
+kindByNumber k at = cond (eqb k 15 || eqb k 16) (kind.Collection at) (cond (eqb k 17) (kind.Triangle at) kind.NoSurface)
 
 -- no surface for any fault of the GP header or the top header too
 unfoldable pub kindByHeader : Header → SurfaceKind
-kindByHeader (top.Found at code srid) = kindByType code at
+kindByHeader (top.Found at code srid) = kindByNumber (kindOf code) at
 kindByHeader (top.Refused k) = kind.NoSurface
 
 -- the kind of a blob's surface, and where its geometry starts

@@ -56,7 +56,7 @@ fn surface_kind(s: &[u8]) -> SurfaceKind
     match gpb::read_header(s) {
         Header::Refused(k) => SurfaceKind::NoSurface,
         Header::Found { at, code, srid } => {
-            let kind = code % 65536 % 1000;
+            let kind = fields::type_kind(code);
             match kind {
                 15 | 16 => SurfaceKind::Collection(at),
                 17 => SurfaceKind::Triangle(at),

@@ -8,18 +8,18 @@ use Rattle.refusals.specs.Checks.{firstOf}
 use Rattle.parts.specs.Points.{pointOf}
 use Rattle.extremes.specs.Extreme.{measured, distanceOf, atLeast, Holds}
 use Rattle.blob.specs.Blob.{runsOfBlob}
+use Rattle.coords.specs.Parts.{PointRunsOnly}
 use Rattle.closest.proofs.PointsOnly.{shortest-line-of-runs}
 use Rattle.operands.specs.Operands.{Workspaces, filled}
 use Rattle.outcomes.specs.Answers.{nothing, blob, answering}
 use Rattle.outcomes.specs.Operations.{Outcome, verticesOfBlob, closestPair, lineChecks, shortestLine}
-use Rattle.outcomes.specs.ThirdProperty.{PointRunsOnly, ShortestOfPoints}
+use Rattle.outcomes.specs.ThirdProperty.{ShortestOfPoints}
 use Rattle.outcomes.proofs.FirstExtremeLine.{point-binary64, accepted-line}
-use Rattle.threed_closest.proofs.PointRuns.{point-runs}
 
 -- the closest pair of two blobs that hold point runs only
-closest-holds : (a b : List ℕ) → PointRunsOnly a → PointRunsOnly b → Holds (distanceOf pointOf) atLeast (verticesOfBlob a) (verticesOfBlob b) (closestPair a b ≡ none) (λ p. closestPair a b ≡ some (measured pointOf p))
+closest-holds : (a b : List ℕ) → PointRunsOnly (runsOfBlob a) → PointRunsOnly (runsOfBlob b) → Holds (distanceOf pointOf) atLeast (verticesOfBlob a) (verticesOfBlob b) (closestPair a b ≡ none) (λ p. closestPair a b ≡ some (measured pointOf p))
 unfolding closestPair
-closest-holds a b p q = shortest-line-of-runs pointOf point-binary64 (runsOfBlob a) (runsOfBlob b) (point-runs a p) (point-runs b q)
+closest-holds a b p q = shortest-line-of-runs pointOf point-binary64 (runsOfBlob a) (runsOfBlob b) p q
 
 module _ (a b : List ℕ) (w : Workspaces) (output : List ℕ) (bytes1 : (i : ℕ) → getD a i 0 < 256) (bytes2 : (i : ℕ) → getD b i 0 < 256) where
   pub shortest-of-points : ShortestOfPoints (answering nothing) (answering blob) a b w output (shortestLine a b w output .report) (shortestLine a b w output .output)
