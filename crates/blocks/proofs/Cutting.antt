@@ -19,6 +19,7 @@ use Rattle.parts.proofs.Turns.{room-start}
 use Rattle.items.specs.Items.{Item, itemsOf}
 use Rattle.items.specs.Inner.{classItems}
 use Rattle.items.specs.declared.Class.{Class}
+use Rattle.items.proofs.Added.{AddedBut}
 use Rattle.items.specs.declared.Class.the-variants.{Points, Segments, Triangles}
 use Rattle.listing.specs.declared.Place.{Place}
 use Rattle.listing.specs.Rows.{floatsPerBox, boxFloats, numbersPerPlace, placeNumbers}
@@ -52,37 +53,9 @@ module _ (size : ℕ) (table : List ℕ) (floats : List Float) where
         }
 
 -- ---- some items of a whole
--- the items of the rows, with those that are left, are the whole
-pub record RowsBut (left whole : List Item) (size : ℕ) (table : List ℕ) (floats : List Float) (n : ℕ) (boxes : List Float) (places : List ℕ) : Type 0 where
-  pub done : List Item
-  pub joined : done ++ left ≡ whole
-  pub rows : Rows size table floats n done boxes places
-
 -- what the first rows have, and the items after it but for those that are left, is what the later rows have
 abbrev pub AddsBut : List Item → List Item → ℕ → List ℕ → List Float → ℕ → List Float → List ℕ → ℕ → List Float → List ℕ → Type 0
-AddsBut left more size table floats n boxes places n′ boxes′ places′ = (is : List Item) → Rows size table floats n is boxes places → RowsBut left (is ++ more) size table floats n′ boxes′ places′
-
-module _ {size : ℕ} {table : List ℕ} {floats : List Float} {n : ℕ} {boxes : List Float} {places : List ℕ} {more : List Item} where
-  pub adds-start : {left : List Item} → left ≡ more → AddsBut left more size table floats n boxes places n boxes places
-  adds-start e is l = record { done = is; joined = ap (λ (x : List Item). is ++ x) e; rows = l }
-
-  module _ {n′ : ℕ} {boxes′ : List Float} {places′ : List ℕ} where
-    pub adds-next : (p : Place) (span : Span) → RoomPast table floats (p .r) (p .at) → Spanned span table floats p size → floatsPerBox * (n′ + 1) ≤ length boxes′ → numbersPerPlace * (n′ + 1) ≤ length places′
-        → AddsBut (itemsFrom table floats p) more size table floats n boxes places n′ boxes′ places′
-        → AddsBut (itemsFrom table floats (span .next)) more size table floats n boxes places (n′ + 1) (sets boxes′ (floatsPerBox * n′) (boxFloats (span .all))) (sets places′ (numbersPerPlace * n′) (placeNumbers p))
-    adds-next p span room spanned hb hp old is l =
-        let o = old is l in
-        let now = take size (itemsFrom table floats p) in
-        record {
-          done = o .done ++ now;
-          joined = append-assoc (o .done) now (itemsFrom table floats (span .next)) ∙ ap (λ (x : List Item). o .done ++ x) (ap (λ (x : List Item). now ++ x) (spanned .items) ∙ take-append-drop size (itemsFrom table floats p)) ∙ o .joined;
-          rows = rows-more size table floats n′ p span room spanned boxes′ places′ hb hp (o .done) (o .rows);
-        }
-
-    pub adds-end : {left : List Item} → left ≡ [] → AddsBut left more size table floats n boxes places n′ boxes′ places′ → Adds more size table floats n boxes places n′ boxes′ places′
-    adds-end e old is l =
-        let o = old is l in
-        rw (← o .joined, e, append-nil) (o .rows)
+AddsBut left more size table floats n boxes places n′ boxes′ places′ = AddedBut left more (λ is. Rows size table floats n is boxes places) (λ is. Rows size table floats n′ is boxes′ places′)
 
 -- ---- the places of a class, block after block
 abbrev firstPlace : Class → Place

@@ -4,3 +4,4 @@ pub mod Turns
 pub mod NotBelowZero
 pub mod PointRuns
 pub mod Repeats
+pub mod Added

@@ -23,6 +23,7 @@ use Rattle.items.specs.Items.{Item, itemsOfKind, itemsOf, boxOfItem, uniteItem,
 use Rattle.items.specs.Inner.{isOfClass, itemsBy, classItems, itemCount, itemAt}
 use Rattle.items.specs.declared.Class.{Class}
 use Rattle.items.specs.declared.Class.the-variants.{Points, Segments, Triangles}
+use Rattle.items.proofs.Added.{AddedBut}
 use Rattle.items.proofs.Turns.{itemsLeft, turn-item}
 use Rattle.listing.specs.declared.Listing.{Listing}
 use Rattle.listing.specs.declared.Place.{Place}
@@ -75,35 +76,9 @@ lists-more floats boxes places list b all p hb hp room b-is all-is is l =
     }
 
 -- ---- some items of a whole
--- what is listed, with the items that are left, is the whole
-pub record ListsBut (left whole : List Item) (list : Listing) (floats boxes : List Float) (places : List ℕ) : Type 0 where
-  pub done : List Item
-  pub joined : done ++ left ≡ whole
-  pub lists : Lists list done floats boxes places
-
 -- what the first listing lists, and the items after it but for those that are left, is what the second lists
 abbrev pub AddsBut : List Item → List Item → List Float → Listing → List Float → List ℕ → Listing → List Float → List ℕ → Type 0
-AddsBut left more floats list boxes places list′ boxes′ places′ = (is : List Item) → Lists list is floats boxes places → ListsBut left (is ++ more) list′ floats boxes′ places′
-
-module _ {floats : List Float} {list : Listing} {boxes : List Float} {places : List ℕ} where
-  pub adds-start : {left more : List Item} → left ≡ more → AddsBut left more floats list boxes places list boxes places
-  adds-start e is l = record { done = is; joined = ap (λ (x : List Item). is ++ x) e; lists = l }
-
-  module _ {list′ : Listing} {boxes′ : List Float} {places′ : List ℕ} {left more : List Item} (old : AddsBut left more floats list boxes places list′ boxes′ places′) where
-    pub adds-next : {now after : List Item} {list″ : Listing} {boxes″ : List Float} {places″ : List ℕ} → Adds now floats list′ boxes′ places′ list″ boxes″ places″ → left ≡ now ++ after
-        → AddsBut after more floats list boxes places list″ boxes″ places″
-    adds-next {now} {after} new e is l =
-        let o = old is l in
-        record {
-          done = o .done ++ now;
-          joined = append-assoc (o .done) now after ∙ ap (λ (x : List Item). o .done ++ x) (sym e) ∙ o .joined;
-          lists = new (o .done) (o .lists);
-        }
-
-    pub adds-end : left ≡ [] → Adds more floats list boxes places list′ boxes′ places′
-    adds-end e is l =
-        let o = old is l in
-        rw (← o .joined, e, append-nil) (o .lists)
+AddsBut left more floats list boxes places list′ boxes′ places′ = AddedBut left more (λ is. Lists list is floats boxes places) (λ is. Lists list′ is floats boxes′ places′)
 
 -- ---- what is left of a run, and of the runs
 pub item-next : (class : Class) (floats : List Float) (at n j : ℕ) → j < itemCount class n → itemsLeft class floats at n j ≡ (itemAt class floats at j ∷ []) ++ itemsLeft class floats at n (j + 1)

@@ -1,14 +1,16 @@
 -- `blocks::cut_class` meets its contract. The invariant: what the rows have, with the items from the next place on, is the whole; those are the class's but for whole blocks. Assumes nothing.
-use mathlib.Core.Path.{_≡_, refl, sym, _∙_}
-use mathlib.Core.List.{append-nil}
+use mathlib.Core.Path.{_≡_, refl, sym, ap, _∙_}
+use mathlib.Core.List.{List, _++_, append-nil}
 use Prim.Native.Nat.{_+_, _-_, _*_, _/_, _<_, _≤_}
 use native.Mathlib.Omega.{arith}
 use borrow.Author.Needs.{needs}
-use lib.ListN.{length, drop}
+use lib.ListN.{length, take, drop, take-append-drop}
+use Rattle.items.specs.Items.{Item}
+use Rattle.items.proofs.Added.{added-start, added-next, added-end}
 use Rattle.blocks.specs.Spans.{itemsFrom, itemTotal, RoomPast}
 use Rattle.blocks.specs.Blocks.{blockCount}
 use Rattle.blocks.proofs.Spans.{total-at-most}
-use Rattle.blocks.proofs.Cutting.{AddsBut, adds-start, adds-next, adds-end, first-room, first-items, first-dropped, blocks-dropped-none, blocks-dropped, none-left, none-there, no-blocks, some-blocks}
+use Rattle.blocks.proofs.Cutting.{AddsBut, rows-more, first-room, first-items, first-dropped, blocks-dropped-none, blocks-dropped, none-left, none-there, no-blocks, some-blocks}
 use Rattle.blocks.proofs.cut_class.Statement.{statement}
 use Rattle.blocks.proofs.cut_class.Tie as tie
 
@@ -55,7 +57,7 @@ add-end-2 c =
 loop-holds : tie.Need-loop-holds Inv-loop μ-loop
 loop-holds c =
     let a = c .before .before .before .before .before .before .args in
-    (omega arith, omega arith, refl, refl, first-room (a .table .now) (a .floats .now) (c .before .before .before .before .before .before .pre .0), blocks-dropped-none (a .size) _ (a .rows - a .rows) (omega arith), adds-start refl)
+    (omega arith, omega arith, refl, refl, first-room (a .table .now) (a .floats .now) (c .before .before .before .before .before .before .pre .0), blocks-dropped-none (a .size) _ (a .rows - a .rows) (omega arith), added-start _ refl)
 
 cover-span-requires : tie.Need-cover-span-requires Inv-loop μ-loop
 cover-span-requires c κs = c .before .loop .inv .4
@@ -94,7 +96,9 @@ loop-again c =
       span .ensures .room,
       span .ensures .items ∙ blocks-dropped (a .size) _ (loop .k - a .rows) (loop .k + 1 - a .rows) _ (omega (arith, loop .inv .0)) (loop .inv .5),
       rw (c .before .before .before .put-box .ensures, c .before .before .before .before .before .before .before .put-place .ensures)
-          (adds-next (loop .next) (span .result) (loop .inv .4) (span .ensures) (omega (arith, n, c .before .before .before .before .before .before .before .before .before .before .before .before .before .before .before .before .before .before .pre .1 .1 .0, loop .inv .2)) (omega (arith, n, c .before .before .before .before .before .before .before .before .before .before .before .before .before .before .before .before .before .before .pre .1 .1 .1, loop .inv .3)) (loop .inv .6)),
+          (added-next _ _ _ (loop .inv .6)
+          (rows-more (a .size) (a .table .now) (a .floats .now) (loop .k) (loop .next) (span .result) (loop .inv .4) (span .ensures) (loop .boxes) (loop .places) (omega (arith, n, c .before .before .before .before .before .before .before .before .before .before .before .before .before .before .before .before .before .before .pre .1 .1 .0, loop .inv .2)) (omega (arith, n, c .before .before .before .before .before .before .before .before .before .before .before .before .before .before .before .before .before .before .pre .1 .1 .1, loop .inv .3)))
+          (sym (take-append-drop (a .size) (itemsFrom (a .table .now) (a .floats .now) (loop .next))) ∙ ap (λ (l : List Item). take (a .size) (itemsFrom (a .table .now) (a .floats .now) (loop .next)) ++ l) (sym (span .ensures .items)))),
     )
 
 same-length : tie.Need-same-length Inv-loop μ-loop
@@ -111,7 +115,7 @@ returns-2 c =
     let e : loop .k ≡ a .rows + ((c .before .before .before .item-total .result - 1) / a .size + 1) = omega (arith, loop .inv .1) in (
       omega (arith, n),
       rw (← e, ← first-items (a .class) (a .table .now) (a .floats .now))
-          (adds-end (loop .inv .5 ∙ first-dropped (a .class) (a .table .now) (a .floats .now) ((loop .k - a .rows) * a .size) ∙ none-left (a .class) (a .table .now) (a .floats .now) (a .size) (loop .k - a .rows) (c .before .before .before .before .before .before .before .before .pre .1 .0) (omega (arith, n, e))) (loop .inv .6)),
+          (added-end _ _ (loop .inv .6) (loop .inv .5 ∙ first-dropped (a .class) (a .table .now) (a .floats .now) ((loop .k - a .rows) * a .size) ∙ none-left (a .class) (a .table .now) (a .floats .now) (a .size) (loop .k - a .rows) (c .before .before .before .before .before .before .before .before .pre .1 .0) (omega (arith, n, e)))),
     )
 
 pub cut-class-spec : {M : Type 1} → statement M

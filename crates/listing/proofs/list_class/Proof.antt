@@ -10,8 +10,9 @@ use Rattle.workspace.specs.Workspace.{numbersPerRun}
 use Rattle.parts.specs.Stored.{pointsFrom, runsFrom, storedRuns, runCount, pointCount}
 use Rattle.parts.proofs.Turns.{RoomFrom, room-start, room-run, room-next, count-next}
 use Rattle.items.specs.Inner.{isOfClass, itemsBy, classItems}
+use Rattle.items.proofs.Added.{added-start, added-next, added-end}
 use Rattle.items.proofs.Turns.{no-items}
-use Rattle.listing.proofs.Growing.{AddsBut, adds-start, adds-next, adds-end, run-next}
+use Rattle.listing.proofs.Growing.{AddsBut, run-next}
 use Rattle.listing.proofs.list_class.Statement.{statement}
 use Rattle.listing.proofs.list_class.Tie as tie
 
@@ -32,7 +33,7 @@ run-count-requires c κs = search needs
 loop-holds : tie.Need-loop-holds Inv-loop μ-loop
 unfolding storedRuns
 loop-holds c = let args = c .before .before .before .before .before .args in
-    (omega arith, room-start (args .table .now) (args .floats .now) (c .before .before .before .before .before .pre .0), refl, refl, omega arith, adds-start refl)
+    (omega arith, room-start (args .table .now) (args .floats .now) (c .before .before .before .before .before .pre .0), refl, refl, omega arith, added-start _ refl)
 
 count-at-requires : tie.Need-count-at-requires Inv-loop μ-loop
 count-at-requires c κs = omega (arith, c .before .before .run-count .ensures, c .loop-test .taken)
@@ -77,7 +78,7 @@ loop-again c = let args = c .before .before .before .before .before .before .bef
       new .kept .1 .1 .1 .1 .1 .0 ∙ loop .inv .2,
       new .kept .1 .1 .1 .1 .1 .1 .0 ∙ loop .inv .3,
       omega (arith, new .ensures .0, loop .inv .4, count-next (args .table .now) (loop .r) h, n .ensures),
-      adds-next (loop .inv .5) {now = cond (isOfClass (args .class) (c .before .before .before .before .before .before .before .kind-at .result)) (itemsBy (args .class) (pointsFrom (args .floats .now) (loop .at) (n .result))) []} (new .ensures .1) (run-next (args .class) (args .floats .now) (args .table .now) (loop .at) (loop .r) (n .result) (c .before .before .before .before .before .before .before .kind-at .result) h (n .ensures) (c .before .before .before .before .before .before .before .kind-at .ensures)),
+      added-next _ _ _ {now = cond (isOfClass (args .class) (c .before .before .before .before .before .before .before .kind-at .result)) (itemsBy (args .class) (pointsFrom (args .floats .now) (loop .at) (n .result))) []} (loop .inv .5) (new .ensures .1) (run-next (args .class) (args .floats .now) (args .table .now) (loop .at) (loop .r) (n .result) (c .before .before .before .before .before .before .before .kind-at .result) h (n .ensures) (c .before .before .before .before .before .before .before .kind-at .ensures)),
     )
 
 same-length : tie.Need-same-length Inv-loop μ-loop
@@ -90,7 +91,7 @@ returns : tie.Need-returns Inv-loop μ-loop
 returns c = let args = c .before .before .before .before .before .before .before .args in
     let loop = c .before .loop in (
       omega (arith, loop .inv .4),
-      adds-end (loop .inv .5) (no-items (args .class) (args .floats .now) (loop .at) (args .table .now) (loop .r) (omega (arith, c .before .before .run-count .ensures, c .loop-test .left))),
+      added-end _ _ (loop .inv .5) (no-items (args .class) (args .floats .now) (loop .at) (args .table .now) (loop .r) (omega (arith, c .before .before .run-count .ensures, c .loop-test .left))),
     )
 
 pub list-class-spec : {M : Type 1} → statement M

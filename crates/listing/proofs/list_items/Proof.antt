@@ -8,8 +8,9 @@ use lib.ListN.{length}
 use Rattle.parts.specs.Stored.{pointsFrom}
 use Rattle.items.specs.Inner.{itemsBy, itemCount, itemAt}
 use Rattle.items.proofs.Laws.{count-at-most}
+use Rattle.items.proofs.Added.{added-start, added-next, added-end}
 use Rattle.items.proofs.Turns.{itemsLeft, left-start, left-none}
-use Rattle.listing.proofs.Growing.{AddsBut, adds-start, adds-next, adds-end, item-next}
+use Rattle.listing.proofs.Growing.{AddsBut, item-next}
 use Rattle.listing.proofs.list_items.Statement.{statement}
 use Rattle.listing.proofs.list_items.Tie as tie
 
@@ -27,7 +28,7 @@ item-count-requires : tie.Need-item-count-requires Inv-loop μ-loop
 item-count-requires c κs = search needs
 
 loop-holds : tie.Need-loop-holds Inv-loop μ-loop
-loop-holds c = (omega arith, refl, refl, omega arith, adds-start (left-start _ _ _ _))
+loop-holds c = (omega arith, refl, refl, omega arith, added-start _ (left-start _ _ _ _))
 
 list-item-requires : tie.Need-list-item-requires Inv-loop μ-loop
 list-item-requires c κs = let args = c .before .before .before .before .before .before .before .before .args in
@@ -56,7 +57,7 @@ loop-again c = let args = c .before .before .before .before .before .before .bef
       new .kept .1 .1 .1 .1 .0 ∙ loop .inv .1,
       new .kept .1 .1 .1 .1 .1 .0 ∙ loop .inv .2,
       omega (arith, new .ensures .0, loop .inv .3),
-      adds-next (loop .inv .4) {now = itemAt (args .first .class) (args .floats .now) (args .first .at) (loop .j) ∷ []} (new .ensures .1) (item-next (args .first .class) (args .floats .now) (args .first .at) (args .n) (loop .j) h),
+      added-next _ _ _ {now = itemAt (args .first .class) (args .floats .now) (args .first .at) (loop .j) ∷ []} (loop .inv .4) (new .ensures .1) (item-next (args .first .class) (args .floats .now) (args .first .at) (args .n) (loop .j) h),
     )
 
 same-length : tie.Need-same-length Inv-loop μ-loop
@@ -69,7 +70,7 @@ returns : tie.Need-returns Inv-loop μ-loop
 returns c = let args = c .before .before .before .before .before .before .args in
     let loop = c .before .loop in (
       omega (arith, loop .inv .3, loop .inv .0, count-at-most (args .first .class) (args .n)),
-      adds-end (loop .inv .4) (left-none (args .first .class) (args .floats .now) (args .first .at) (args .n) (loop .j) (omega (arith, c .before .before .item-count .ensures, c .loop-test .left))),
+      added-end _ _ (loop .inv .4) (left-none (args .first .class) (args .floats .now) (args .first .at) (args .n) (loop .j) (omega (arith, c .before .before .item-count .ensures, c .loop-test .left))),
     )
 
 pub list-items-spec : {M : Type 1} → statement M
