@@ -17,7 +17,8 @@ use Rattle.ieee754.specs.InnerRoot.{unitsOfPattern, rootPattern}
 use Rattle.ieee754.proofs.FloatOrder.{not-lt→le, le→not-lt, lt-nan-right, lt-nan-left, zero-sign-left, zero-sign-right}
 use Rattle.ieee754.proofs.FloatUnits.{units-of-zero}
 use Rattle.ieee754.proofs.PositiveRoots.{units-positive, root-value, root-of-square-positive, root-keeps-order-positive}
-use Rattle.ieee754.proofs.SignClear.{signClear, le→units, below-infinity, sign-clear-number, zero-below-clear}
+use Rattle.ieee754.proofs.SignClear.{signClear, le→units, below-infinity, sign-clear-number}
+pub use Rattle.ieee754.proofs.SignClear.{zero-below-clear}
 use Rattle.ieee754.proofs.SquaredRoot.{D}
 use Rattle.ieee754.proofs.SumsAndSquares.{square-sign-clear-positive}
 
