@@ -27,7 +27,7 @@ u32-of-stored vs l at i h b =
     λ k c. ap (λ (j : ℕ). getD (sets l at vs) j 0) (add-assoc at i k) ∙ getD-sets vs l at (i + k) 0 h (omega arith) in
     rw (getD-sets vs l at i 0 h (omega arith), byte 1 (lit< tt), byte 2 (lit< tt), byte 3 (lit< tt))
 
--- a u32 put at a position is read there
+-- End theorem: a u32 put at a position is read there
 pub u32-read-back : (l : List ℕ) (at n : ℕ) → at + 4 ≤ length l → n < 2 ^ 32 → u32At true (sets l at (bytesOfU32 n)) at ≡ n
 unfolding u32At bytesOfU32
 u32-read-back l at n h b =
@@ -38,7 +38,7 @@ pub eight-bytes-back : (n : ℕ) → n < 2 ^ 64 → u64At true (bytesOfU64 n) 0 
 unfolding u32At u64At bytesOfU32 bytesOfU64
 eight-bytes-back n h = omega (arith, four-bytes-back (n % 2 ^ 32) (omega arith), four-bytes-back (n / 2 ^ 32) (omega arith))
 
--- a u64 put at a position is read there
+-- End theorem: a u64 put at a position is read there
 pub u64-read-back : (l : List ℕ) (at n : ℕ) → at + 8 ≤ length l → n < 2 ^ 64 → u64At true (sets l at (bytesOfU64 n)) at ≡ n
 unfolding u64At bytesOfU32 bytesOfU64
 u64-read-back l at n h b =

@@ -1,23 +1,19 @@
--- The type and the SRID of a blob fit 32 bits. Assumes nothing.
+-- The SRID of a blob fits 32 bits. Assumes nothing.
 use mathlib.Core.Bool.{Bool, true, false, cond, _&&_}
 use mathlib.Core.List.{List}
-use Prim.Native.Nat.{ℕ, _+_, _/_, _%_, _^_, _<_}
+use Prim.Native.Nat.{ℕ, _%_, _^_, _<_}
 use lib.Dec.{eqb, leb, lit<}
 use lib.ListN.{length, getD}
 use Rattle.fields.specs.TypeCode.{hasFlag, sridFlag}
 use Rattle.fields.specs.Fields.{u32At}
 use Rattle.fields.proofs.Bounds.{u32-fits}
-use Rattle.gpb.specs.Header.{isGp, flagsOf, geometryStart, byteOrderOf, topType, ewkbSrid, sridOf}
+use Rattle.gpb.specs.Header.{isGp, flagsOf, byteOrderOf, topType, ewkbSrid, sridOf}
 
 either-fits : (b : Bool) (m n : ℕ) → m < 2 ^ 32 → n < 2 ^ 32 → cond b m n < 2 ^ 32
 either-fits true m n p q = p
 either-fits false m n p q = q
 
 module _ (s : List ℕ) (bytes : (i : ℕ) → getD s i 0 < 256) where
-  pub type-fits : topType s < 2 ^ 32
-  unfolding topType
-  type-fits = u32-fits s bytes (eqb (byteOrderOf s) 1) (geometryStart s + 1)
-
   pub srid-fits : sridOf s < 2 ^ 32
   unfolding sridOf ewkbSrid
   srid-fits =

@@ -70,12 +70,13 @@ unfolding refusedOr
 found-is (some j) s at code srid h = let z : _≡_ {A = ℕ} 0 1 = cc in absurd (omega arith)
 found-is none s at code srid h = record { unrefused = refl; start = cc; type = cc; own = cc }
 
--- the header refuses with k exactly when a check gives k whose condition holds, and no earlier one holds
+-- End theorem: the header refuses with k exactly when a check gives k whose condition holds, and no earlier one holds
 pub refused-exactly : (s : List ℕ) (k : ℕ) → (headerOf s ≡ header.Refused k) ↔ ((i : ℕ) × (c : Check ℕ) × FirstAt (headerChecks s) k i c)
 unfolding headerOf refusedOr
 refused-exactly s k =
     (λ h. given-exactly (headerChecks s) k .0 (refused-is (firstOf (headerChecks s)) s k h), λ f. rw (given-exactly (headerChecks s) k .1 f))
 
+-- End theorem: so does the header of a blob that is to have Z
 pub refused-exactly-3d : (s : List ℕ) (k : ℕ) → (headerOf3d s ≡ header.Refused k) ↔ ((i : ℕ) × (c : Check ℕ) × FirstAt (headerChecks3d s) k i c)
 unfolding headerOf3d refusedOr
 refused-exactly-3d s k =

@@ -13,15 +13,14 @@ use lib.Pow.{pow-pos}
 use Rattle.ieee754.specs.MinMax.{positiveZero, maximumOf, absoluteOf}
 use Rattle.ieee754.specs.Root.{unitsOf}
 use Rattle.ieee754.proofs.AxisBounds.{Holds}
-use Rattle.ieee754.proofs.Differences.{difference-at-most-an-end, difference-either-way, difference-nan-either-way, difference-number}
+use Rattle.ieee754.proofs.Differences.{difference-either-way, difference-nan-either-way, difference-number}
 use Rattle.ieee754.proofs.FloatOrder.{le→rank, not-lt→le}
 use Rattle.ieee754.proofs.FloatRanks.{rankOf, le-by-rank}
 use Rattle.ieee754.proofs.FloatUnits.{units-below-top}
 use Rattle.ieee754.proofs.MinMaxLaws.{below-maximum-left, below-maximum-right, maximum-below, maximum-fits}
-use Rattle.ieee754.proofs.NearDifferences.{near-ends}
+use Rattle.ieee754.proofs.NearDifferences.{zero-fits, near-ends, difference-at-most-an-end}
 use Rattle.ieee754.proofs.RootBounds.{top}
-use Rattle.ieee754.proofs.RootLaws.{zero-below-clear}
-use Rattle.ieee754.proofs.SignClear.{absolute-sign-clear, absolute-number}
+use Rattle.ieee754.proofs.SignClear.{absolute-sign-clear, absolute-number, zero-below-clear}
 use Rattle.ieee754.proofs.SumsAndSquares.{absolute-fits}
 
 -- ---- the greatest gap
@@ -73,10 +72,6 @@ difference-below-greatest-gap-absolute p x lo hi fp fx fl fh i n = subst (λ (z 
 -- of alo .. ahi to blo .. bhi on one axis, before it is squared (document 01, witness and boxes)
 abbrev pub leastGap : Float → Float → Float → Float → Float
 leastGap alo ahi blo bhi = maximumOf (maximumOf (sub binary64 alo bhi) (sub binary64 blo ahi)) positiveZero
-
-pub zero-fits : T (fits binary64 positiveZero)
-unfolding fits
-zero-fits = tt
 
 pub zero-number : T (not (isNan positiveZero))
 unfolding isNan

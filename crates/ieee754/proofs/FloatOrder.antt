@@ -1,6 +1,6 @@
 -- The order of floats that are no NaN: reflexive, transitive, total. Assumes nothing.
 use mathlib.Core.Bool.{Bool, true, false, not, false≢true}
-use mathlib.Core.Logic.{_⊎_, inl, inr}
+use mathlib.Core.Logic.{_⊎_}
 use mathlib.Core.Path.{ap, refl, sym, _∙_, subst, _≡_}
 use Prim.Native.Nat.{ℕ, _-_, _+_, _<_, _≤_}
 use native.Mathlib.Nat.{lt-trans, le-refl, le-trans, le-of-lt, not-le-of-lt}
@@ -89,13 +89,6 @@ lt-number-left (fin s m e) y h = tt
 
 pub le-reflexive : (x : Float) → T (not (isNan x)) → T (fits binary64 x) → T (le x x)
 le-reflexive x p f = subst T (sym (le-by-rank x x p p f f)) (le→leb (rankOf x) (rankOf x) (le-refl (rankOf x)))
-
-pub le-total : (x y : Float) → T (not (isNan x)) → T (not (isNan y)) → T (fits binary64 x) → T (fits binary64 y) → T (le x y) ⊎ T (le y x)
-le-total x y p q f g = go (lt x y) refl
-  where
-    go : (b : Bool) → lt x y ≡ b → T (le x y) ⊎ T (le y x)
-    go true h = inl (lt→le x y p q f g h)
-    go false h = inr (not-lt→le x y p q f g h)
 
 pub lt-transitive : (x y z : Float) → T (fits binary64 x) → T (fits binary64 y) → T (fits binary64 z) → lt x y ≡ true → lt y z ≡ true → lt x z ≡ true
 lt-transitive x y z f g i h k =

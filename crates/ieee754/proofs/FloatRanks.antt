@@ -7,13 +7,14 @@ use native.Mathlib.Nat.{le-of-eq, le-of-lt, lt-of-lt-of-le, lt-of-le-of-lt, lt-o
 use native.Mathlib.Omega.{arith}
 use lib.Dec.{T, leb, ltb, eqb, leb→le, le→leb, ltb→lt, lt→ltb, eqb→eq}
 use lib.Ieee.{Float, nan, inf, fin, binary64, up, down, below, level, lt, eq, le, isNan, fits}
-use lib.Ieee.Fits.{down-pos, eq→eqb}
+use lib.Ieee.Fits.{down-pos, eq→eqb, and-i, and-l, and-r}
 use lib.IntN.{ℤ}
 use lib.Pow.{pow-pos}
 use Rattle.ieee754.specs.Root.{unitsOf}
 use Rattle.ieee754.proofs.FloatUnits.{units-exact, units-below-top}
 use Rattle.ieee754.proofs.RootBounds.{top}
 use Rattle.ieee754.proofs.SquaredRoot.{D}
+use Rattle.ieee754.proofs.SignClear.{or-split}
 
 pub equal-tests : (p q : Bool) → (T p → T q) → (T q → T p) → p ≡ q
 equal-tests true true f g = refl
@@ -64,29 +65,17 @@ below-place M true true w v h k = equal-tests (ltb v w) (ltb (M - w) (M - v)) (�
 level-place : (M : ℕ) (s t : Bool) (w v : ℕ) → w < M → v < M → level s w t v ≡ eqb (signedRank M s w) (signedRank M t v)
 level-place M s t w v h k = equal-tests (level s w t v) (eqb (signedRank M s w) (signedRank M t v)) (λ x. eq→eqb (to s t x)) (λ x. from s t (eqb→eq (signedRank M s w) (signedRank M t v) x))
   where
-    l : (a b : Bool) → T (a && b) → T a
-    l true b x = tt
-    l false b x = absurd x
-
-    r : (a b : Bool) → T (a && b) → T b
-    r true b x = x
-    r false b x = absurd x
-
-    i : (a b : Bool) → T a → T b → T (a && b)
-    i true b x y = y
-    i false b x y = absurd x
-
     to : (s t : Bool) → T (level s w t v) → signedRank M s w ≡ signedRank M t v
-    to false false x = ap (λ (z : ℕ). M + z) (eqb→eq w v (l (eqb w v) true x))
-    to true true x = ap (λ (z : ℕ). M - z) (eqb→eq w v (l (eqb w v) true x))
-    to false true x = omega (arith, eqb→eq w v (l (eqb w v) (eqb w 0) x), eqb→eq w 0 (r (eqb w v) (eqb w 0) x))
-    to true false x = omega (arith, eqb→eq w v (l (eqb w v) (eqb w 0) x), eqb→eq w 0 (r (eqb w v) (eqb w 0) x))
+    to false false x = ap (λ (z : ℕ). M + z) (eqb→eq w v (and-l (eqb w v) true x))
+    to true true x = ap (λ (z : ℕ). M - z) (eqb→eq w v (and-l (eqb w v) true x))
+    to false true x = omega (arith, eqb→eq w v (and-l (eqb w v) (eqb w 0) x), eqb→eq w 0 (and-r (eqb w v) (eqb w 0) x))
+    to true false x = omega (arith, eqb→eq w v (and-l (eqb w v) (eqb w 0) x), eqb→eq w 0 (and-r (eqb w v) (eqb w 0) x))
 
     from : (s t : Bool) → signedRank M s w ≡ signedRank M t v → T (level s w t v)
-    from false false e = i (eqb w v) true (eq→eqb {a = w} {b = v} (omega arith)) tt
-    from true true e = i (eqb w v) true (eq→eqb {a = w} {b = v} (omega arith)) tt
-    from false true e = i (eqb w v) (eqb w 0) (eq→eqb {a = w} {b = v} (omega arith)) (eq→eqb {a = w} {b = 0} (omega arith))
-    from true false e = i (eqb w v) (eqb w 0) (eq→eqb {a = w} {b = v} (omega arith)) (eq→eqb {a = w} {b = 0} (omega arith))
+    from false false e = and-i (eqb w v) true (eq→eqb {a = w} {b = v} (omega arith)) tt
+    from true true e = and-i (eqb w v) true (eq→eqb {a = w} {b = v} (omega arith)) tt
+    from false true e = and-i (eqb w v) (eqb w 0) (eq→eqb {a = w} {b = v} (omega arith)) (eq→eqb {a = w} {b = 0} (omega arith))
+    from true false e = and-i (eqb w v) (eqb w 0) (eq→eqb {a = w} {b = v} (omega arith)) (eq→eqb {a = w} {b = 0} (omega arith))
 
 -- ---- the rank of a float, in units of 2 ^ -1074
 abbrev pub rankOf : Float → ℕ
@@ -153,10 +142,6 @@ eq-by-rank (fin s m e) (inf true) p q f g = no-eq (rankOf (fin s m e)) 0 (λ h. 
 eq-by-rank (fin s m e) (inf false) p q f g = no-eq (rankOf (fin s m e)) (top + top) (differ (rankOf (fin s m e)) (top + top) (inside top s (unitsOf (fin s m e)) (units-below-top s m e f) .1))
 eq-by-rank (fin s m e) (fin t n d) p q f g = eq-fin s m e t n d f g
 
-split : (a b : Bool) → T (a || b) → T a ⊎ T b
-split true b t = inl tt
-split false b t = inr t
-
 pub le-by-rank : (x y : Float) → T (not (isNan x)) → T (not (isNan y)) → T (fits binary64 x) → T (fits binary64 y) → le x y ≡ leb (rankOf x) (rankOf y)
 unfolding le
 le-by-rank x y p q f g =
@@ -164,7 +149,7 @@ le-by-rank x y p q f g =
     ∙ equal-tests (ltb (rankOf x) (rankOf y) || eqb (rankOf x) (rankOf y)) (leb (rankOf x) (rankOf y)) (λ t. le→leb (rankOf x) (rankOf y) (to (rankOf x) (rankOf y) t)) (λ t. from (rankOf x) (rankOf y) (leb→le (rankOf x) (rankOf y) t))
   where
     to : (a b : ℕ) → T (ltb a b || eqb a b) → a ≤ b
-    to a b t = elim (split (ltb a b) (eqb a b) t) [ inl u ↦ le-of-lt (ltb→lt a b u) | inr u ↦ le-of-eq (eqb→eq a b u) ]
+    to a b t = elim (or-split (ltb a b) (eqb a b) t) [ inl u ↦ le-of-lt (ltb→lt a b u) | inr u ↦ le-of-eq (eqb→eq a b u) ]
 
     from : (a b : ℕ) → a ≤ b → T (ltb a b || eqb a b)
     from a b h = go (ltb a b) (lt→ltb a b)

@@ -2,14 +2,15 @@
 use mathlib.Core.Bool.{Bool, true, false, not, cond, true≢false}
 use mathlib.Core.Path.{_≡_, refl, sym, ap, _∙_}
 use native.Mathlib.Nat.{le-antisymm}
-use lib.Dec.{T, eqb, eqb-refl}
+use lib.Dec.{T, eqb-refl}
 use lib.Ieee.{Float, binary64, mul, lt, eq, isNan, fits, ofBits}
 use lib.Ieee.Bits.{is-true, is-false}
 use Rattle.ieee754.specs.MinMax.{positiveZero, maximumOf}
-use Rattle.ieee754.proofs.AxisGaps.{zero-fits, zero-number}
+use Rattle.ieee754.proofs.AxisGaps.{zero-number}
+use Rattle.ieee754.proofs.NearDifferences.{zero-fits}
 use Rattle.ieee754.proofs.FloatRanks.{rankOf, eq-by-rank}
 use Rattle.ieee754.proofs.MinMaxLaws.{maximum-fits}
-use Rattle.ieee754.proofs.FloatOrder.{le→rank, not-lt→le, lt→le, le→not-lt, le-transitive, lt-number-left, lt-number-right, lt-transitive}
+use Rattle.ieee754.proofs.FloatOrder.{le→rank, not-lt→le, lt→le, le→not-lt, le-transitive, lt-number-right, lt-transitive}
 use Rattle.ieee754.proofs.MinMaxCases.{absolute-of-zero}
 use Rattle.ieee754.proofs.SumsAndSquares.{square-of-absolute}
 

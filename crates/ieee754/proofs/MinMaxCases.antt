@@ -1,17 +1,16 @@
 -- Minimum, maximum, clamp and absolute value by the tests that the code makes. Assumes nothing.
-use mathlib.Core.Bool.{Bool, true, false, cond, _||_, Bool·beq, true≢false, false≢true}
+use mathlib.Core.Bool.{Bool, true, false, cond, _||_, true≢false, false≢true}
 use mathlib.Core.Path.{_≡_, refl, sym, ap, _∙_, subst}
-use Prim.Native.Nat.{ℕ, zero, suc, _+_, _*_, _<_}
+use Prim.Native.Nat.{zero, suc, _+_, _*_}
 use native.Mathlib.Nat.{zero-lt-suc, mul-pos}
-use native.Mathlib.Omega.{arith}
-use lib.Dec.{T, ltb, eqb, eqb→eq, lt→ltb}
+use lib.Dec.{T, ltb, lt→ltb}
 use lib.Ieee.{Float, nan, inf, fin, binary64, up, down, lt, eq, ne, neg, isNan, fits, ofBits}
 use lib.Ieee.Bits.{is-true}
 use lib.Ieee.Compare.{differs-from-itself, nan-differs}
-use lib.Ieee.Fits.{up-pos, and-l}
+use lib.Ieee.Fits.{up-pos}
 use Rattle.ieee754.specs.MinMax.{positiveZero, one, clampOf, absoluteOf}
 use Rattle.ieee754.proofs.FloatRanks.{equal-tests}
-use Rattle.ieee754.proofs.RootCases.{none-less, naught, more-than-zero}
+use Rattle.ieee754.proofs.RootCases.{none-less, naught, more-than-zero, not-zero}
 use Rattle.ieee754.proofs.RootLaws.{zero-is-positive-zero}
 
 pub nan-test : (x : Float) → ne x x ≡ isNan x
@@ -36,11 +35,7 @@ unfolding eq ofBits
 absolute-of-zero nan f h = absurd (false≢true h)
 absolute-of-zero (inf s) f h = absurd (false≢true h)
 absolute-of-zero (fin s zero e) f h = sym (zero-is-positive-zero e (unfold fits in f))
-absolute-of-zero (fin s (suc m) e) f h =
-    absurd (clash (suc m * up e) (0 * down e) (mul-pos (zero-lt-suc m) (up-pos e)) (naught (down e)) (eqb→eq (suc m * up e * 1) (0 * down e) (and-l (eqb (suc m * up e * 1) (0 * down e)) (Bool·beq s false || eqb (suc m * up e * 1) 0) (subst T (sym h) tt))))
-  where
-    clash : (a b : ℕ) → 0 < a → b ≡ 0 → a * 1 ≡ b → ⊥
-    clash a b h k e = omega arith
+absolute-of-zero (fin s (suc m) e) f h = absurd (not-zero s m e h)
 
 pub absolute-of-positive : (x : Float) → lt x (ofBits binary64 0) ≡ false → eq x (ofBits binary64 0) ≡ false → x ≡ absoluteOf x
 unfolding lt eq ofBits

@@ -1,264 +1,223 @@
--- A difference of near ends, with its sign, is at most the absolute value of any difference between. Assumes nothing.
-use mathlib.Core.Bool.{Bool, true, false, not, _&&_, cond}
+-- Differences of the ends of ranges: of near ends at most, and of an end at least, the absolute value of any between. Assumes nothing.
+use mathlib.Core.Bool.{Bool, true, false, not}
 use mathlib.Core.Logic.{_⊎_, inl, inr}
-use mathlib.Core.Path.{_≡_, refl, sym, ap, _∙_, subst}
-use Prim.Native.Nat.{ℕ, zero, suc, _+_, _-_, _*_, _^_, _≤_, _<_, zero-le}
+use mathlib.Core.Path.{_≡_, refl, sym, subst}
+use Prim.Native.Nat.{ℕ, _≤_, _<_}
 use native.Mathlib.Decide.{decLe}
-use native.Mathlib.Nat.{le-trans, le-of-eq, le-of-lt, lt-of-lt-of-le, lt-of-le-of-lt, lt-of-not-le, mul-comm, mul-assoc, mul-right-comm, mul-le-mul-right, mul-lt-mul-of-pos-right, le-of-mul-le-mul-right, lt-of-mul-lt-mul-right, eq-of-mul-eq-mul-right, eq-or-lt-of-le, zero-mul, le-add-right, sub-le, mul-pos, zero-lt-suc}
+use native.Mathlib.Nat.{lt-of-lt-of-le, lt-of-le-of-lt, lt-of-not-le, mul-le-mul-right}
 use native.Mathlib.Omega.{arith}
-use lib.Arith.{le→nltb}
-use lib.Dec.{T, ltb, le→leb, ltb→lt, lt→ltb, nltb→le, lit≤}
-use lib.Ieee.{Float, nan, inf, fin, binary64, up, down, odd, units, round, sum, add, neg, sub, le, isNan, fits}
-use lib.Ieee.Bits.{is-true, is-false}
-use lib.Ieee.Fits.{down-pos, round-is, sub-fits, round-fits}
-use lib.Ieee.Order.{round-mono, kept, drop}
-use lib.Ieee.Scale.{round-same}
+use lib.Dec.{T, leb→le}
+use lib.Ieee.{Float, nan, inf, fin, binary64, round, add, neg, sub, le, isNan, fits}
+use lib.Ieee.Fits.{sub-fits}
+use lib.Ieee.Order.{round-mono}
 use lib.IntN.{ℤ, pos}
 use lib.Pow.{pow-pos}
 use Rattle.ieee754.specs.MinMax.{positiveZero, absoluteOf}
-use Rattle.ieee754.specs.Root.{unitsOf}
-use Rattle.ieee754.proofs.Differences.{distance, signedDistance, signed-distance-scale, signed-distance-rank, absolute-difference}
-use Rattle.ieee754.proofs.FloatOrder.{nan-le, le-nan, le→rank}
-use Rattle.ieee754.proofs.FloatRanks.{signedRank, rankOf, le-by-rank}
-use Rattle.ieee754.proofs.FloatUnits.{units-of-zero, units-exact, units-below-top}
-use Rattle.ieee754.proofs.RootBounds.{top}
-use Rattle.ieee754.proofs.SignClear.{signClear, units→le, round-sign-clear, sign-clear-number, absolute-sign-clear}
+use Rattle.ieee754.proofs.Differences.{distance, absolute-difference, same-or-less, more, sign-set-below}
+use Rattle.ieee754.proofs.FloatOrder.{nan-le, le-nan, le→rank, le-transitive, le-reflexive, le-number-right}
+use Rattle.ieee754.proofs.FloatRanks.{rankOf, le-by-rank}
+use Rattle.ieee754.proofs.SignClear.{absolute-sign-clear, below-infinity, zero-below-clear}
 use Rattle.ieee754.proofs.SquaredRoot.{D}
 use Rattle.ieee754.proofs.SumsAndSquares.{absolute-fits}
 
--- ---- a difference with its sign: x - y rounds with a clear sign where y is below x
--- the sign that `sub` gives to s A - t B
-abbrev sign : Bool → Bool → ℕ → ℕ → Bool
-sign false false A B = ltb A B
-sign true true A B = cond (ltb A B) false (ltb B A)
-sign false true A B = false
-sign true false A B = true
+pub zero-fits : T (fits binary64 positiveZero)
+unfolding fits
+zero-fits = tt
 
-signed-apart : (s t : Bool) (A B C : ℕ) → cond (ltb A B) (round binary64 t (B - A) C) (round binary64 (s && ltb B A) (A - B) C) ≡ round binary64 (cond (ltb A B) t (s && ltb B A)) (distance A B) C
-signed-apart s t A B C = go (ltb A B) (ltb→lt A B) (nltb→le A B)
-  where
-    less : (A B : ℕ) → A < B → B - A ≡ distance A B
-    less A B h = omega arith
-
-    more : (A B : ℕ) → B ≤ A → A - B ≡ distance A B
-    more A B h = omega arith
-
-    go : (b : Bool) → (T b → A < B) → (T (not b) → B ≤ A) → cond b (round binary64 t (B - A) C) (round binary64 (s && ltb B A) (A - B) C) ≡ round binary64 (cond b t (s && ltb B A)) (distance A B) C
-    go true h k = ap (λ (z : ℕ). round binary64 t z C) (less A B (h tt))
-    go false h k = ap (λ (z : ℕ). round binary64 (s && ltb B A) z C) (more A B (k tt))
-
-cond-self : (b : Bool) → cond b true false ≡ b
-cond-self true = refl
-cond-self false = refl
-
-signed : (s t : Bool) (A B C : ℕ) → sum binary64 s A (not t) B C ≡ round binary64 (sign s t A B) (signedDistance s t A B) C
-unfolding sum
-signed false false A B C = signed-apart false true A B C ∙ ap (λ (b : Bool). round binary64 b (distance A B) C) (cond-self (ltb A B))
-signed true true A B C = signed-apart true false A B C
-signed false true A B C = refl
-signed true false A B C = refl
-
--- A and B are w and v at another scale
-module _ (A B w v C u : ℕ) (C> : 0 < C) (u> : 0 < u) (e : A * u ≡ w * C) (f : B * u ≡ v * C) where
-  up-le : w ≤ v → A ≤ B
-  up-le h = le-of-mul-le-mul-right (le-trans (le-of-eq e) (le-trans (mul-le-mul-right C h) (le-of-eq (sym f)))) u>
-
-  up-lt : w < v → A < B
-  up-lt h = lt-of-mul-lt-mul-right u (lt-of-le-of-lt (le-of-eq e) (lt-of-lt-of-le (mul-lt-mul-of-pos-right h C>) (le-of-eq (sym f))))
-
-  naught : w ≡ 0 → A ≡ 0
-  naught h = eq-of-mul-eq-mul-right u u> A 0 (e ∙ ap (λ (z : ℕ). z * C) h ∙ zero-mul C ∙ sym (zero-mul u))
-
-equal-or : (A B : ℕ) → A ≤ B → T (ltb A B) ⊎ (distance A B ≡ 0)
-equal-or A B h = elim (eq-or-lt-of-le h) [ inl p ↦ inr (zero-gap A B p) | inr l ↦ inl (lt→ltb A B l) ]
-  where
-    zero-gap : (A B : ℕ) → A ≡ B → distance A B ≡ 0
-    zero-gap A B h = omega arith
-
-not-both : (A B : ℕ) → B ≤ A → ltb A B ≡ false
-not-both A B h = is-false (ltb A B) (le→nltb A B h)
-
--- where the first rank is at most the second, the sign is set, or the difference is zero
-down-sign : (M : ℕ) (s t : Bool) (A B w v C u : ℕ) → 0 < C → 0 < u → A * u ≡ w * C → B * u ≡ v * C → w < M → v < M → signedRank M s w ≤ signedRank M t v → T (sign s t A B) ⊎ (signedDistance s t A B ≡ 0)
-down-sign M false false A B w v C u C> u> e f h k l = equal-or A B (up-le A B w v C u C> u> e f (omega arith))
-down-sign M true false A B w v C u C> u> e f h k l = inl tt
-down-sign M false true A B w v C u C> u> e f h k l = inr (both (naught A B w v C u C> u> e f (omega arith)) (naught B A v w C u C> u> f e (omega arith)))
-  where
-    both : A ≡ 0 → B ≡ 0 → A + B ≡ 0
-    both p q = omega arith
-down-sign M true true A B w v C u C> u> e f h k l =
-    let g = up-le B A v w C u C> u> f e (omega arith) in
-    elim (equal-or B A g) [
-      | inl t ↦ inl (subst (λ (b : Bool). T (cond b false (ltb B A))) (sym (not-both A B g)) t)
-      | inr z ↦ inr (turn z)
-    ]
-  where
-    turn : distance B A ≡ 0 → distance A B ≡ 0
-    turn z = omega arith
-
--- where it is above, the sign is clear
-up-sign : (M : ℕ) (s t : Bool) (A B w v C u : ℕ) → 0 < C → 0 < u → A * u ≡ w * C → B * u ≡ v * C → w < M → v < M → signedRank M t v < signedRank M s w → sign s t A B ≡ false
-up-sign M false false A B w v C u C> u> e f h k l = not-both A B (le-of-lt (up-lt B A v w C u C> u> f e (omega arith)))
-up-sign M false true A B w v C u C> u> e f h k l = refl
-up-sign M true false A B w v C u C> u> e f h k l = absurd (no M w v l)
-  where
-    no : (M w v : ℕ) → M + v < M - w → ⊥
-    no M w v l = omega arith
-up-sign M true true A B w v C u C> u> e f h k l = ap (λ (b : Bool). cond b false (ltb B A)) (is-true (ltb A B) (lt→ltb A B (up-lt A B w v C u C> u> e f (omega arith))))
-
--- ---- at or below zero
-
-sign-clear-rank : (y : Float) → T (signClear y) → T (fits binary64 y) → top ≤ rankOf y
-sign-clear-rank (inf false) c f = lit≤ tt
-sign-clear-rank (fin false m e) c f = le-add-right top (unitsOf (fin false m e))
-
-abbrev signSet : Float → Bool
-signSet nan = false
-signSet (inf s) = s
-signSet (fin s m e) = s
-
-odd-sign-set : (d q k l : ℕ) → T (signSet (odd d true q k l))
-unfolding odd
-odd-sign-set d zero k l = tt
-odd-sign-set d (suc q) k l = tt
-
-round-sign-set : (a c : ℕ) → T (signSet (round binary64 true a c))
-unfolding units
-round-sign-set a c = subst (λ (z : Float). T (signSet z)) (sym (round-is binary64 true a c)) (go (ltb (kept 53 (a * D) c * 2 ^ drop 53 (a * D) c) (2 ^ 2098)))
-  where
-    go : (b : Bool) → T (signSet (cond b (odd 54 true (kept 53 (a * D) c) (drop 53 (a * D) c) 1074) (inf true)))
-    go true = odd-sign-set 54 (kept 53 (a * D) c) (drop 53 (a * D) c) 1074
-    go false = tt
-
-sign-set-below : (x y : Float) → T (signSet x) → T (signClear y) → T (fits binary64 x) → T (fits binary64 y) → T (le x y)
-sign-set-below x y p c f g = subst T (sym (le-by-rank x y (number x p) (sign-clear-number y c) f g)) (le→leb (rankOf x) (rankOf y) (le-trans (low x p) (sign-clear-rank y c g)))
-  where
-    number : (x : Float) → T (signSet x) → T (not (isNan x))
-    number nan p = absurd p
-    number (inf s) p = unfold isNan in tt
-    number (fin s m e) p = unfold isNan in tt
-
-    low : (x : Float) → T (signSet x) → rankOf x ≤ top
-    low nan p = absurd p
-    low (inf true) p = zero-le
-    low (fin true m e) p = sub-le top (unitsOf (fin true m e))
-
-zero-round : (c : ℕ) → 0 < c → round binary64 false 0 c ≡ positiveZero
-zero-round c h = round-same binary64 false 0 c 0 1 h (zero-lt-suc 0) (zero-mul 1 ∙ sym (zero-mul c)) ∙ unit
-  where
-    unit : round binary64 false 0 1 ≡ positiveZero
-    unit = unfold round in refl
-
-pub zero-under : (s : Bool) (c : ℕ) (y : Float) → 0 < c → T (signClear y) → T (fits binary64 y) → T (le (round binary64 s 0 c) y)
-zero-under true c y h k g = sign-set-below (round binary64 true 0 c) y (round-sign-set 0 c) k (round-fits binary64 true 0 c) g
-zero-under false c y h k g = subst (λ (z : Float). T (le z y)) (sym (zero-round c h)) (units→le positiveZero y tt k (unfold fits in tt) g (le-trans (le-of-eq (units-of-zero false (pos 0))) zero-le))
-
--- ---- the difference of the near ends is at most the absolute value of any difference
-module _ (s : Bool) (m : ℕ) (e : ℤ) (t : Bool) (n : ℕ) (d : ℤ) (f : T (fits binary64 (fin s m e))) (g : T (fits binary64 (fin t n d))) where
-  abbrev A : ℕ
-  A = m * up e * down d
-
-  abbrev B : ℕ
-  B = n * up d * down e
-
-  abbrev C : ℕ
-  C = down e * down d
-
-  abbrev w : ℕ
-  w = unitsOf (fin s m e)
-
-  abbrev v : ℕ
-  v = unitsOf (fin t n d)
-
-  ex : A * D ≡ w * C
-  ex = mul-right-comm (m * up e) (down d) D ∙ ap (λ (z : ℕ). z * down d) (units-exact s m e f) ∙ mul-assoc w (down e) (down d)
-
-  ey : B * D ≡ v * C
-  ey = mul-right-comm (n * up d) (down e) D ∙ ap (λ (z : ℕ). z * down e) (units-exact t n d g) ∙ mul-assoc v (down d) (down e) ∙ ap (λ (z : ℕ). v * z) (mul-comm (down d) (down e))
-
-  C> : 0 < C
-  C> = mul-pos (down-pos e) (down-pos d)
-
-  form : sub binary64 (fin s m e) (fin t n d) ≡ round binary64 (sign s t A B) (signedDistance s t A B) C
-  unfolding sub add neg
-  form = signed s t A B C
-
-  pub same-or-less : rankOf (fin s m e) ≤ rankOf (fin t n d) → (y : Float) → T (signClear y) → T (fits binary64 y) → T (le (sub binary64 (fin s m e) (fin t n d)) y)
-  same-or-less h y c k =
-      subst (λ (z : Float). T (le z y)) (sym form)
-      (elim (down-sign top s t A B w v C D C> (pow-pos 1074) ex ey (units-below-top s m e f) (units-below-top t n d g) h) [
-        | inl p ↦ subst (λ (b : Bool). T (le (round binary64 b (signedDistance s t A B) C) y)) (sym (is-true (sign s t A B) p)) (sign-set-below (round binary64 true (signedDistance s t A B) C) y (round-sign-set (signedDistance s t A B) C) c (round-fits binary64 true (signedDistance s t A B) C) k)
-        | inr z ↦ subst (λ (a : ℕ). T (le (round binary64 (sign s t A B) a C) y)) (sym z) (zero-under (sign s t A B) C y C> c k)
-      ])
-
-  pub more : rankOf (fin t n d) < rankOf (fin s m e) → sub binary64 (fin s m e) (fin t n d) ≡ round binary64 false (distance (rankOf (fin s m e)) (rankOf (fin t n d))) D
-  more h =
-      form
-      ∙ ap (λ (b : Bool). round binary64 b (signedDistance s t A B) C) (up-sign top s t A B w v C D C> (pow-pos 1074) ex ey (units-below-top s m e f) (units-below-top t n d g) h)
-      ∙ round-same binary64 false (signedDistance s t A B) C (signedDistance s t w v) D C> (pow-pos 1074) (signed-distance-scale s t A B w v C D ex ey)
-      ∙ ap (λ (z : ℕ). round binary64 false z D) (signed-distance-rank top s t w v (units-below-top s m e f) (units-below-top t n d g))
-
-near-fin : (s : Bool) (m : ℕ) (e : ℤ) (t : Bool) (n : ℕ) (d : ℤ) (s' : Bool) (m' : ℕ) (e' : ℤ) (t' : Bool) (n' : ℕ) (d' : ℤ)
-    → T (fits binary64 (fin s m e)) → T (fits binary64 (fin t n d)) → T (fits binary64 (fin s' m' e')) → T (fits binary64 (fin t' n' d'))
-    → rankOf (fin s m e) ≤ rankOf (fin s' m' e') → rankOf (fin t' n' d') ≤ rankOf (fin t n d) → T (le (sub binary64 (fin s m e) (fin t n d)) (absoluteOf (sub binary64 (fin s' m' e') (fin t' n' d'))))
-near-fin s m e t n d s' m' e' t' n' d' f g f' g' h k = go (decLe (rankOf (fin s m e)) (rankOf (fin t n d)))
-  where
-    is : absoluteOf (sub binary64 (fin s' m' e') (fin t' n' d')) ≡ round binary64 false (distance (rankOf (fin s' m' e')) (rankOf (fin t' n' d'))) D
-    is = absolute-difference s' m' e' t' n' d' f' g'
-
-    wider : (u v x y : ℕ) → u ≤ x → y ≤ v → v < u → distance u v ≤ distance x y
-    wider u v x y a b c = omega arith
-
-    go : Dec (rankOf (fin s m e) ≤ rankOf (fin t n d)) → T (le (sub binary64 (fin s m e) (fin t n d)) (absoluteOf (sub binary64 (fin s' m' e') (fin t' n' d'))))
-    go (yes l) = same-or-less s m e t n d f g l (absoluteOf (sub binary64 (fin s' m' e') (fin t' n' d'))) (subst (λ (z : Float). T (signClear z)) (sym is) (round-sign-clear (distance (rankOf (fin s' m' e')) (rankOf (fin t' n' d'))) D)) (absolute-fits (sub binary64 (fin s' m' e') (fin t' n' d')) (sub-fits binary64 (fin s' m' e') (fin t' n' d')))
-    go (no l) =
-        subst (λ (z : Float). T (le z (absoluteOf (sub binary64 (fin s' m' e') (fin t' n' d'))))) (sym (more s m e t n d f g (lt-of-not-le l)))
-        (subst (λ (z : Float). T (le (round binary64 false (distance (rankOf (fin s m e)) (rankOf (fin t n d))) D) z)) (sym is)
-        (round-mono binary64 (distance (rankOf (fin s m e)) (rankOf (fin t n d))) D (distance (rankOf (fin s' m' e')) (rankOf (fin t' n' d'))) D (pow-pos 1074) (pow-pos 1074) (mul-le-mul-right D (wider (rankOf (fin s m e)) (rankOf (fin t n d)) (rankOf (fin s' m' e')) (rankOf (fin t' n' d')) h k (lt-of-not-le l)))))
-
--- ---- the infinities
 pub number-inf : (x : Float) → T (not (isNan x)) → T (le x (inf false))
 unfolding isNan le
 number-inf (inf true) n = tt
 number-inf (inf false) n = tt
 number-inf (fin s m e) n = tt
 
-inf-number : (x : Float) → T (signClear x) → T (le (inf true) x)
-unfolding le
-inf-number (inf false) c = tt
-inf-number (fin s m e) c = tt
+-- ---- the order of differences
+-- fl(u - v) is at most 0, or at most fl(x - y)
+abbrev pub AtMost : Float → Float → Float → Float → Type 0
+AtMost u v x y = T (le (sub binary64 u v) positiveZero) ⊎ T (le (sub binary64 u v) (sub binary64 x y))
 
-top-at : (u v x y : Float) → T (not (isNan (sub binary64 u v))) → absoluteOf (sub binary64 x y) ≡ inf false → T (le (sub binary64 u v) (absoluteOf (sub binary64 x y)))
-top-at u v x y n e = subst (λ (z : Float). T (le (sub binary64 u v) z)) (sym e) (number-inf (sub binary64 u v) n)
+finite-order : (s : Bool) (m : ℕ) (e : ℤ) (t : Bool) (n : ℕ) (d : ℤ) (s' : Bool) (m' : ℕ) (e' : ℤ) (t' : Bool) (n' : ℕ) (d' : ℤ)
+    → T (fits binary64 (fin s m e)) → T (fits binary64 (fin t n d)) → T (fits binary64 (fin s' m' e')) → T (fits binary64 (fin t' n' d'))
+    → rankOf (fin s m e) ≤ rankOf (fin s' m' e') → rankOf (fin t' n' d') ≤ rankOf (fin t n d) → AtMost (fin s m e) (fin t n d) (fin s' m' e') (fin t' n' d')
+finite-order s m e t n d s' m' e' t' n' d' f g f' g' h k = go (decLe (rankOf (fin s m e)) (rankOf (fin t n d)))
+  where
+    wider : (u v x y : ℕ) → u ≤ x → y ≤ v → v < u → distance u v ≤ distance x y
+    wider u v x y a b c = omega arith
 
-low-at : (u v x y : Float) → T (not (isNan (sub binary64 x y))) → sub binary64 u v ≡ inf true → T (le (sub binary64 u v) (absoluteOf (sub binary64 x y)))
-low-at u v x y n e = subst (λ (z : Float). T (le z (absoluteOf (sub binary64 x y)))) (sym e) (inf-number (absoluteOf (sub binary64 x y)) (absolute-sign-clear (sub binary64 x y) n))
+    go : Dec (rankOf (fin s m e) ≤ rankOf (fin t n d)) → AtMost (fin s m e) (fin t n d) (fin s' m' e') (fin t' n' d')
+    go (yes l) = inl (same-or-less s m e t n d f g l positiveZero tt zero-fits)
+    go (no l) =
+        let a = more s m e t n d f g (lt-of-not-le l) in
+        let b = more s' m' e' t' n' d' f' g' (lt-of-le-of-lt k (lt-of-lt-of-le (lt-of-not-le l) h)) in
+        inr (subst (λ (z : Float). T (le z (sub binary64 (fin s' m' e') (fin t' n' d')))) (sym a)
+        (subst (λ (z : Float). T (le (round binary64 false (distance (rankOf (fin s m e)) (rankOf (fin t n d))) D) z)) (sym b)
+        (round-mono binary64 (distance (rankOf (fin s m e)) (rankOf (fin t n d))) D (distance (rankOf (fin s' m' e')) (rankOf (fin t' n' d'))) D (pow-pos 1074) (pow-pos 1074)
+        (mul-le-mul-right D (wider (rankOf (fin s m e)) (rankOf (fin t n d)) (rankOf (fin s' m' e')) (rankOf (fin t' n' d')) h k (lt-of-not-le l))))))
 
-abbrev Below : Float → Float → Float → Float → Type 0
-Below u v x y = T (not (isNan (sub binary64 u v))) → T (not (isNan (sub binary64 x y))) → T (le u x) → T (le y v) → T (le (sub binary64 u v) (absoluteOf (sub binary64 x y)))
+-- for u ≤ x and y ≤ v, where fl(u - v) is no NaN
+abbrev Ordered : Float → Float → Float → Float → Type 0
+Ordered u v x y = T (not (isNan (sub binary64 u v))) → T (le u x) → T (le y v) → AtMost u v x y
 
-finite-pair : (s : Bool) (m : ℕ) (e : ℤ) (t : Bool) (n : ℕ) (d : ℤ) (u v : Float) → T (fits binary64 (fin s m e)) → T (fits binary64 (fin t n d)) → T (fits binary64 u) → T (fits binary64 v) → Below u v (fin s m e) (fin t n d)
+finite-ends : (s : Bool) (m : ℕ) (e : ℤ) (t : Bool) (n : ℕ) (d : ℤ) (x y : Float) → T (fits binary64 (fin s m e)) → T (fits binary64 (fin t n d)) → T (fits binary64 x) → T (fits binary64 y) → Ordered (fin s m e) (fin t n d) x y
 unfolding sub add neg isNan le
-finite-pair s m e t n d nan v f g fu fv p q h k = absurd h
-finite-pair s m e t n d (inf false) v f g fu fv p q h k = absurd h
-finite-pair s m e t n d (inf true) nan f g fu fv p q h k = absurd k
-finite-pair s m e t n d (inf true) (inf true) f g fu fv p q h k = absurd p
-finite-pair s m e t n d (inf true) (inf false) f g fu fv p q h k = low-at (inf true) (inf false) (fin s m e) (fin t n d) q refl
-finite-pair s m e t n d (inf true) (fin i j l) f g fu fv p q h k = low-at (inf true) (fin i j l) (fin s m e) (fin t n d) q refl
-finite-pair s m e t n d (fin i j l) nan f g fu fv p q h k = absurd k
-finite-pair s m e t n d (fin i j l) (inf true) f g fu fv p q h k = absurd k
-finite-pair s m e t n d (fin i j l) (inf false) f g fu fv p q h k = low-at (fin i j l) (inf false) (fin s m e) (fin t n d) q refl
-finite-pair s m e t n d (fin i j l) (fin a b c) f g fu fv p q h k = near-fin i j l a b c s m e t n d fu fv f g (le→rank (fin i j l) (fin s m e) fu f h) (le→rank (fin t n d) (fin a b c) g fv k)
+finite-ends s m e t n d nan y f g fx fy p h k = absurd h
+finite-ends s m e t n d (inf true) y f g fx fy p h k = absurd h
+finite-ends s m e t n d (inf false) nan f g fx fy p h k = absurd k
+finite-ends s m e t n d (inf false) (inf false) f g fx fy p h k = absurd k
+finite-ends s m e t n d (inf false) (inf true) f g fx fy p h k = inr (number-inf (sub binary64 (fin s m e) (fin t n d)) p)
+finite-ends s m e t n d (inf false) (fin i j l) f g fx fy p h k = inr (number-inf (sub binary64 (fin s m e) (fin t n d)) p)
+finite-ends s m e t n d (fin a b c) nan f g fx fy p h k = absurd k
+finite-ends s m e t n d (fin a b c) (inf false) f g fx fy p h k = absurd k
+finite-ends s m e t n d (fin a b c) (inf true) f g fx fy p h k = inr (number-inf (sub binary64 (fin s m e) (fin t n d)) p)
+finite-ends s m e t n d (fin a b c) (fin i j l) f g fx fy p h k = finite-order s m e t n d a b c i j l f g fx fy (le→rank (fin s m e) (fin a b c) f fx h) (le→rank (fin i j l) (fin t n d) fy g k)
+
+-- v = -infinity is above no y but itself
+above-all : (s : Bool) (m : ℕ) (e : ℤ) (x y : Float) → Ordered (fin s m e) (inf true) x y
+unfolding sub add neg le
+above-all s m e nan y p h k = absurd h
+above-all s m e (inf true) y p h k = absurd h
+above-all s m e (inf false) nan p h k = absurd k
+above-all s m e (inf false) (inf false) p h k = absurd k
+above-all s m e (inf false) (inf true) p h k = inr tt
+above-all s m e (inf false) (fin i j l) p h k = absurd k
+above-all s m e (fin a b c) nan p h k = absurd k
+above-all s m e (fin a b c) (inf false) p h k = absurd k
+above-all s m e (fin a b c) (inf true) p h k = inr tt
+above-all s m e (fin a b c) (fin i j l) p h k = absurd k
+
+-- u = +infinity is below no x but itself
+infinite-left : (v x y : Float) → Ordered (inf false) v x y
+unfolding sub add neg isNan le
+infinite-left v nan y p h k = absurd h
+infinite-left v (inf true) y p h k = absurd h
+infinite-left v (fin a b c) y p h k = absurd h
+infinite-left v (inf false) nan p h k = absurd k
+infinite-left v (inf false) (inf true) p h k = inr (number-inf (sub binary64 (inf false) v) p)
+infinite-left v (inf false) (fin i j l) p h k = inr (number-inf (sub binary64 (inf false) v) p)
+infinite-left nan (inf false) (inf false) p h k = absurd p
+infinite-left (inf true) (inf false) (inf false) p h k = absurd k
+infinite-left (inf false) (inf false) (inf false) p h k = absurd p
+infinite-left (fin t n d) (inf false) (inf false) p h k = absurd k
+
+pub difference-keeps-order : (u v x y : Float) → T (fits binary64 u) → T (fits binary64 v) → T (fits binary64 x) → T (fits binary64 y) → Ordered u v x y
+unfolding sub add neg isNan le
+difference-keeps-order nan v x y fu fv fx fy p h k = absurd p
+difference-keeps-order (inf true) nan x y fu fv fx fy p h k = absurd p
+difference-keeps-order (inf true) (inf true) x y fu fv fx fy p h k = absurd p
+difference-keeps-order (inf true) (inf false) x y fu fv fx fy p h k = inl tt
+difference-keeps-order (inf true) (fin t n d) x y fu fv fx fy p h k = inl tt
+difference-keeps-order (inf false) v x y fu fv fx fy p h k = infinite-left v x y p h k
+difference-keeps-order (fin s m e) nan x y fu fv fx fy p h k = absurd p
+difference-keeps-order (fin s m e) (inf false) x y fu fv fx fy p h k = inl tt
+difference-keeps-order (fin s m e) (inf true) x y fu fv fx fy p h k = above-all s m e x y p h k
+difference-keeps-order (fin s m e) (fin t n d) x y fu fv fx fy p h k = finite-ends s m e t n d x y fu fv fx fy p h k
+
+-- what is at most 0 or at most a difference that g bounds, g bounds
+pub beyond : (u v x y g : Float) → T (fits binary64 g) → T (le positiveZero g) → (T (not (isNan (sub binary64 x y))) → T (le (sub binary64 x y) g)) → AtMost u v x y → T (le (sub binary64 u v) g)
+beyond u v x y g f z b (inl h) = le-transitive (sub binary64 u v) positiveZero g (sub-fits binary64 u v) zero-fits f h z
+beyond u v x y g f z b (inr h) = le-transitive (sub binary64 u v) (sub binary64 x y) g (sub-fits binary64 u v) (sub-fits binary64 x y) f h (b (le-number-right (sub binary64 u v) (sub binary64 x y) h))
+
+-- a number is at most its absolute value
+below-absolute : (d : Float) → T (not (isNan d)) → T (fits binary64 d) → T (le d (absoluteOf d))
+below-absolute nan n f = absurd (unfold isNan in n)
+below-absolute (inf true) n f = unfold le in tt
+below-absolute (inf false) n f = unfold le in tt
+below-absolute (fin true m e) n f = sign-set-below (fin true m e) (fin false m e) tt tt f (absolute-fits (fin true m e) f)
+below-absolute (fin false m e) n f = le-reflexive (fin false m e) n f
 
 -- fl(u - v) is at most |fl(x - y)| for u ≤ x and y ≤ v
-pub near-ends : (u v x y : Float) → T (fits binary64 u) → T (fits binary64 v) → T (fits binary64 x) → T (fits binary64 y) → Below u v x y
-near-ends u v nan y fu fv f g p q h k = absurd (le-nan u h)
-near-ends u v (inf s) nan fu fv f g p q h k = absurd (nan-le v k)
-near-ends u v (inf s) (fin t n d) fu fv f g p q h k = top-at u v (inf s) (fin t n d) p (unfold sub add neg in refl)
-near-ends u v (inf true) (inf true) fu fv f g p q h k = absurd (unfold sub add neg isNan in q)
-near-ends u v (inf true) (inf false) fu fv f g p q h k = top-at u v (inf true) (inf false) p (unfold sub add neg in refl)
-near-ends u v (inf false) (inf true) fu fv f g p q h k = top-at u v (inf false) (inf true) p (unfold sub add neg in refl)
-near-ends u v (inf false) (inf false) fu fv f g p q h k = absurd (unfold sub add neg isNan in q)
-near-ends u v (fin s m e) nan fu fv f g p q h k = absurd (nan-le v k)
-near-ends u v (fin s m e) (inf t) fu fv f g p q h k = top-at u v (fin s m e) (inf t) p (unfold sub add neg in refl)
-near-ends u v (fin s m e) (fin t n d) fu fv f g p q h k = finite-pair s m e t n d u v f g fu fv p q h k
+pub near-ends : (u v x y : Float) → T (fits binary64 u) → T (fits binary64 v) → T (fits binary64 x) → T (fits binary64 y)
+    → T (not (isNan (sub binary64 u v))) → T (not (isNan (sub binary64 x y))) → T (le u x) → T (le y v) → T (le (sub binary64 u v) (absoluteOf (sub binary64 x y)))
+near-ends u v x y fu fv f g p q h k =
+    let d = sub binary64 x y in
+    let fd = sub-fits binary64 x y in
+    let fa = absolute-fits d fd in
+    beyond u v x y (absoluteOf d) fa (zero-below-clear (pos 0) (absoluteOf d) (absolute-sign-clear d q) zero-fits fa) (λ n. below-absolute d n fd) (difference-keeps-order u v x y fu fv f g p h k)
+
+-- ---- the farther end of lo .. hi
+farther-end : (p x lo hi : ℕ) → lo ≤ x → x ≤ hi → (distance p x ≤ distance p lo) ⊎ (distance p x ≤ distance hi p)
+farther-end p x lo hi h k = go (decLe x p)
+  where
+    go : Dec (x ≤ p) → (distance p x ≤ distance p lo) ⊎ (distance p x ≤ distance hi p)
+    go (yes l) = inl (omega arith)
+    go (no f) = inr (omega (arith, lt-of-not-le f))
+
+abbrev pub AtMostAnEnd : Float → Float → Float → Float → Type 0
+AtMostAnEnd p x lo hi = T (le (absoluteOf (sub binary64 p x)) (absoluteOf (sub binary64 p lo))) ⊎ T (le (absoluteOf (sub binary64 p x)) (absoluteOf (sub binary64 hi p)))
+
+-- all four finite
+difference-at-most-an-end-finite : (s : Bool) (m : ℕ) (e : ℤ) (s₁ : Bool) (m₁ : ℕ) (e₁ : ℤ) (s₂ : Bool) (m₂ : ℕ) (e₂ : ℤ) (s₃ : Bool) (m₃ : ℕ) (e₃ : ℤ)
+    → T (fits binary64 (fin s m e)) → T (fits binary64 (fin s₁ m₁ e₁)) → T (fits binary64 (fin s₂ m₂ e₂)) → T (fits binary64 (fin s₃ m₃ e₃))
+    → T (le (fin s₂ m₂ e₂) (fin s₁ m₁ e₁)) → T (le (fin s₁ m₁ e₁) (fin s₃ m₃ e₃)) → AtMostAnEnd (fin s m e) (fin s₁ m₁ e₁) (fin s₂ m₂ e₂) (fin s₃ m₃ e₃)
+difference-at-most-an-end-finite s m e s₁ m₁ e₁ s₂ m₂ e₂ s₃ m₃ e₃ f f₁ f₂ f₃ h k =
+    let p = fin s m e in
+    let x = fin s₁ m₁ e₁ in
+    let lo = fin s₂ m₂ e₂ in
+    let hi = fin s₃ m₃ e₃ in
+    go (farther-end (rankOf p) (rankOf x) (rankOf lo) (rankOf hi) (places s₂ m₂ e₂ s₁ m₁ e₁ f₂ f₁ h) (places s₁ m₁ e₁ s₃ m₃ e₃ f₁ f₃ k))
+  where
+    places : (s : Bool) (m : ℕ) (e : ℤ) (t : Bool) (n : ℕ) (d : ℤ) → T (fits binary64 (fin s m e)) → T (fits binary64 (fin t n d)) → T (le (fin s m e) (fin t n d)) → rankOf (fin s m e) ≤ rankOf (fin t n d)
+    places s m e t n d f g h = leb→le (rankOf (fin s m e)) (rankOf (fin t n d)) (subst T (le-by-rank (fin s m e) (fin t n d) (unfold isNan in tt) (unfold isNan in tt) f g) h)
+
+    rounded : (s : Bool) (m : ℕ) (e : ℤ) (t : Bool) (n : ℕ) (d : ℤ) (s' : Bool) (m' : ℕ) (e' : ℤ) (t' : Bool) (n' : ℕ) (d' : ℤ)
+        → T (fits binary64 (fin s m e)) → T (fits binary64 (fin t n d)) → T (fits binary64 (fin s' m' e')) → T (fits binary64 (fin t' n' d'))
+        → distance (rankOf (fin s m e)) (rankOf (fin t n d)) ≤ distance (rankOf (fin s' m' e')) (rankOf (fin t' n' d')) → T (le (absoluteOf (sub binary64 (fin s m e) (fin t n d))) (absoluteOf (sub binary64 (fin s' m' e') (fin t' n' d'))))
+    rounded s m e t n d s' m' e' t' n' d' f g f' g' l =
+        subst (λ (z : Float). T (le z (absoluteOf (sub binary64 (fin s' m' e') (fin t' n' d'))))) (sym (absolute-difference s m e t n d f g))
+        (subst (λ (z : Float). T (le (round binary64 false (distance (rankOf (fin s m e)) (rankOf (fin t n d))) D) z)) (sym (absolute-difference s' m' e' t' n' d' f' g'))
+        (round-mono binary64 (distance (rankOf (fin s m e)) (rankOf (fin t n d))) D (distance (rankOf (fin s' m' e')) (rankOf (fin t' n' d'))) D (pow-pos 1074) (pow-pos 1074) (mul-le-mul-right D l)))
+
+    go : (distance (rankOf (fin s m e)) (rankOf (fin s₁ m₁ e₁)) ≤ distance (rankOf (fin s m e)) (rankOf (fin s₂ m₂ e₂))) ⊎ (distance (rankOf (fin s m e)) (rankOf (fin s₁ m₁ e₁)) ≤ distance (rankOf (fin s₃ m₃ e₃)) (rankOf (fin s m e)))
+        → AtMostAnEnd (fin s m e) (fin s₁ m₁ e₁) (fin s₂ m₂ e₂) (fin s₃ m₃ e₃)
+    go (inl l) = inl (rounded s m e s₁ m₁ e₁ s m e s₂ m₂ e₂ f f₁ f f₂ l)
+    go (inr l) = inr (rounded s m e s₁ m₁ e₁ s₃ m₃ e₃ s m e f f₁ f₃ f l)
+
+-- ---- the infinities
+
+-- an infinite absolute value is at least any other
+infinite-low-end : (p x lo hi : Float) → T (not (isNan (sub binary64 p x))) → absoluteOf (sub binary64 p lo) ≡ inf false → AtMostAnEnd p x lo hi
+infinite-low-end p x lo hi n e = inl (subst (λ (z : Float). T (le (absoluteOf (sub binary64 p x)) z)) (sym e) (below-infinity (absoluteOf (sub binary64 p x)) (absolute-sign-clear (sub binary64 p x) n)))
+
+infinite-high-end : (p x lo hi : Float) → T (not (isNan (sub binary64 p x))) → absoluteOf (sub binary64 hi p) ≡ inf false → AtMostAnEnd p x lo hi
+infinite-high-end p x lo hi n e = inr (subst (λ (z : Float). T (le (absoluteOf (sub binary64 p x)) z)) (sym e) (below-infinity (absoluteOf (sub binary64 p x)) (absolute-sign-clear (sub binary64 p x) n)))
+
+abbrev Bounded : Float → Float → Float → Float → Type 0
+Bounded p x lo hi = T (not (isNan (sub binary64 p x))) → T (le lo x) → T (le x hi) → AtMostAnEnd p x lo hi
+
+infinite-point : (x lo hi : Float) → Bounded (inf false) x lo hi
+unfolding sub add neg isNan le
+infinite-point x nan hi n h k = absurd (nan-le x h)
+infinite-point x (inf true) hi n h k = infinite-low-end (inf false) x (inf true) hi n refl
+infinite-point nan (inf false) hi n h k = absurd n
+infinite-point (inf true) (inf false) hi n h k = absurd h
+infinite-point (inf false) (inf false) hi n h k = absurd n
+infinite-point (fin t i j) (inf false) hi n h k = absurd h
+infinite-point x (fin s m e) hi n h k = infinite-low-end (inf false) x (fin s m e) hi n refl
+
+minus-infinite-point : (x lo hi : Float) → Bounded (inf true) x lo hi
+unfolding sub add neg isNan le
+minus-infinite-point x lo nan n h k = absurd (le-nan x k)
+minus-infinite-point x lo (inf false) n h k = infinite-high-end (inf true) x lo (inf false) n refl
+minus-infinite-point nan lo (inf true) n h k = absurd n
+minus-infinite-point (inf true) lo (inf true) n h k = absurd n
+minus-infinite-point (inf false) lo (inf true) n h k = absurd k
+minus-infinite-point (fin t i j) lo (inf true) n h k = absurd k
+minus-infinite-point x lo (fin s m e) n h k = infinite-high-end (inf true) x lo (fin s m e) n refl
+
+finite-point : (s : Bool) (m : ℕ) (e : ℤ) (x lo hi : Float) → T (fits binary64 (fin s m e)) → T (fits binary64 x) → T (fits binary64 lo) → T (fits binary64 hi) → Bounded (fin s m e) x lo hi
+unfolding sub add neg isNan le
+finite-point s m e x nan hi f g g' g'' n h k = absurd (nan-le x h)
+finite-point s m e x (inf t) hi f g g' g'' n h k = infinite-low-end (fin s m e) x (inf t) hi n refl
+finite-point s m e x (fin t i j) nan f g g' g'' n h k = absurd (le-nan x k)
+finite-point s m e x (fin t i j) (inf u) f g g' g'' n h k = infinite-high-end (fin s m e) x (fin t i j) (inf u) n refl
+finite-point s m e nan (fin t i j) (fin u a b) f g g' g'' n h k = absurd k
+finite-point s m e (inf true) (fin t i j) (fin u a b) f g g' g'' n h k = absurd h
+finite-point s m e (inf false) (fin t i j) (fin u a b) f g g' g'' n h k = absurd k
+finite-point s m e (fin s₁ m₁ e₁) (fin s₂ m₂ e₂) (fin s₃ m₃ e₃) f g g' g'' n h k = difference-at-most-an-end-finite s m e s₁ m₁ e₁ s₂ m₂ e₂ s₃ m₃ e₃ f g g' g'' h k
+
+-- |fl(p - x)| is at most |fl(p - lo)| or |fl(hi - p)|, where it is no NaN
+pub difference-at-most-an-end : (p x lo hi : Float) → T (fits binary64 p) → T (fits binary64 x) → T (fits binary64 lo) → T (fits binary64 hi) → T (not (isNan (sub binary64 p x)))
+    → T (le lo x) → T (le x hi) → AtMostAnEnd p x lo hi
+difference-at-most-an-end nan x lo hi f g g' g'' n h k = absurd (unfold sub add isNan in n)
+difference-at-most-an-end (inf false) x lo hi f g g' g'' n h k = infinite-point x lo hi n h k
+difference-at-most-an-end (inf true) x lo hi f g g' g'' n h k = minus-infinite-point x lo hi n h k
+difference-at-most-an-end (fin s m e) x lo hi f g g' g'' n h k = finite-point s m e x lo hi f g g' g'' n h k

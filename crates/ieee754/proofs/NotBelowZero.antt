@@ -1,12 +1,12 @@
 -- A root is never below 0. Assumes nothing.
 use mathlib.Core.Path.{_≡_, refl, sym, _∙_}
 use mathlib.Core.Bool.{Bool, true, false, _&&_, false≢true}
-use Prim.Native.Nat.{ℕ, zero, suc, _+_, _*_}
+use Prim.Native.Nat.{ℕ, zero, suc, _*_}
 use native.Mathlib.Nat.{zero-mul, mul-one}
 use native.Mathlib.Omega.{arith}
 use borrow.Author.Tests.{eqb-true, le-ltb}
 use lib.IntN.{ℤ}
-use lib.Dec.{T, ltb, eqb}
+use lib.Dec.{T, ltb}
 use lib.Ieee.{Float, nan, inf, fin, binary64, up, down, lt, eq, fits}
 use Rattle.ieee754.specs.MinMax.{positiveZero}
 use Rattle.ieee754.specs.Root.{rootOf}

@@ -1,5 +1,5 @@
 -- The cases of `rootOf`, by the tests that the code makes. Assumes nothing.
-use mathlib.Core.Bool.{true, false, not, _||_, Bool·beq, true≢false, false≢true}
+use mathlib.Core.Bool.{Bool, true, false, not, _||_, Bool·beq, true≢false, false≢true}
 use mathlib.Core.Path.{_≡_, refl, sym, ap, _∙_, subst}
 use Prim.Native.Nat.{ℕ, zero, suc, _+_, _*_, _<_}
 use native.Mathlib.Nat.{mul-pos, zero-lt-suc}
@@ -10,6 +10,7 @@ use lib.Ieee.Bits.{is-true}
 use lib.Ieee.Compare.{differs-from-itself}
 use lib.Ieee.Fits.{up-pos, and-l}
 use lib.Ieee.Positive.{positive}
+use lib.IntN.{ℤ}
 use Rattle.ieee754.specs.Root.{unitsOf, rootOf}
 use Rattle.ieee754.specs.InnerRoot.{unitsOfPattern, rootPattern}
 use Rattle.ieee754.proofs.PatternValues.{units-of-float}
@@ -45,16 +46,19 @@ root-of-negative (fin true zero e) h = absurd (none-less 0 (0 * up e * 1 + 0 * d
 root-of-negative (fin true (suc m) e) h = refl
 root-of-negative (fin false m e) h = absurd (none-less (m * up e * 1) (0 * down e) (naught (down e)) h)
 
+pub not-zero : (s : Bool) (m : ℕ) (e : ℤ) → eq (fin s (suc m) e) (ofBits binary64 0) ≡ true → ⊥
+unfolding eq ofBits
+not-zero s m e h = clash (suc m * up e) (0 * down e) (mul-pos (zero-lt-suc m) (up-pos e)) (naught (down e)) (eqb→eq (suc m * up e * 1) (0 * down e) (and-l (eqb (suc m * up e * 1) (0 * down e)) (Bool·beq s false || eqb (suc m * up e * 1) 0) (subst T (sym h) tt)))
+  where
+    clash : (a b : ℕ) → 0 < a → b ≡ 0 → a * 1 ≡ b → ⊥
+    clash a b h k e = omega arith
+
 pub root-of-zero-test : (s : Float) → eq s (ofBits binary64 0) ≡ true → s ≡ rootOf s
 unfolding eq ofBits rootOf
 root-of-zero-test nan h = absurd (false≢true h)
 root-of-zero-test (inf s) h = absurd (false≢true h)
 root-of-zero-test (fin s zero e) h = refl
-root-of-zero-test (fin s (suc m) e) h =
-    absurd (clash (suc m * up e) (0 * down e) (mul-pos (zero-lt-suc m) (up-pos e)) (naught (down e)) (eqb→eq (suc m * up e * 1) (0 * down e) (and-l (eqb (suc m * up e * 1) (0 * down e)) (Bool·beq s false || eqb (suc m * up e * 1) 0) (subst T (sym h) tt))))
-  where
-    clash : (a b : ℕ) → 0 < a → b ≡ 0 → a * 1 ≡ b → ⊥
-    clash a b h k e = omega arith
+root-of-zero-test (fin s (suc m) e) h = absurd (not-zero s m e h)
 
 pub root-of-infinite-test : (s : Float) → eq s (div binary64 (ofBits binary64 0x3ff0_0000_0000_0000) (ofBits binary64 0)) ≡ true → s ≡ rootOf s
 unfolding eq ofBits div rootOf

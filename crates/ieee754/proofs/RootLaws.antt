@@ -1,7 +1,7 @@
 -- The root keeps order, and the root of a root's square is that root. Assumes nothing.
 use mathlib.Core.Bool.{not, true, false, true≢false, Bool}
 use mathlib.Core.Path.{_≡_, refl, sym, _∙_, subst, ap}
-use Prim.Native.Nat.{ℕ, zero, suc, _*_, zero-le}
+use Prim.Native.Nat.{ℕ, zero, suc, _*_}
 use native.Mathlib.Nat.{le-trans, le-of-eq, zero-lt-suc, not-le-of-lt, zero-mul, mul-one}
 use lib.Dec.{T, lt→ltb}
 use lib.Ieee.{lt, isNan, Float, nan, inf, fin, binary64, up, down, round, mul, le, fits}
@@ -17,7 +17,8 @@ use Rattle.ieee754.specs.InnerRoot.{unitsOfPattern, rootPattern}
 use Rattle.ieee754.proofs.FloatOrder.{not-lt→le, le→not-lt, lt-nan-right, lt-nan-left, zero-sign-left, zero-sign-right}
 use Rattle.ieee754.proofs.FloatUnits.{units-of-zero}
 use Rattle.ieee754.proofs.PositiveRoots.{units-positive, root-value, root-of-square-positive, root-keeps-order-positive}
-use Rattle.ieee754.proofs.SignClear.{signClear, le→units, units→le, below-infinity, sign-clear-number}
+use Rattle.ieee754.proofs.SignClear.{signClear, le→units, below-infinity, sign-clear-number}
+pub use Rattle.ieee754.proofs.SignClear.{zero-below-clear}
 use Rattle.ieee754.proofs.SquaredRoot.{D}
 use Rattle.ieee754.proofs.SumsAndSquares.{square-sign-clear-positive}
 
@@ -53,10 +54,6 @@ root-fits (inf false) f = unfold rootOf in f
 root-fits (fin s zero e) f = unfold rootOf in f
 root-fits (fin true (suc m) e) f = unfold rootOf in unfold fits in tt
 root-fits (fin false (suc m) e) f = unfold rootOf in ofBits-fits binary64 (rootPattern (unitsOf (fin false (suc m) e)))
-
--- a zero is at most any number with a clear sign
-pub zero-below-clear : (e : ℤ) (y : Float) → T (signClear y) → T (fits binary64 (fin false 0 e)) → T (fits binary64 y) → T (le (fin false 0 e) y)
-zero-below-clear e y c f g = units→le (fin false 0 e) y tt c f g (le-trans (le-of-eq (units-of-zero false e)) zero-le)
 
 root-of-infinity : rootOf (inf false) ≡ inf false
 unfolding rootOf

@@ -124,6 +124,8 @@ root-is-root s f p =
         (strict (toBits binary64 s) (subst (λ (z : ℕ). 0 < z) e a) (subst (λ (z : ℕ). z ≤ mostUnits) e b))
 
 -- ---- and it alone does
+
+-- End theorem: a float that meets the document's relation to s is the root that the code computes of s
 pub only-root-is-root : (s r : Float) → T (fits binary64 s) → T (positive s) → IsRoot s r → r ≡ rootOf s
 unfolding neighbourAbove neighbourBelow rootPattern
 only-root-is-root s r fs p i =

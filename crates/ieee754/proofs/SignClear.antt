@@ -12,7 +12,7 @@ use lib.IntN.{ℤ}
 use lib.Pow.{pow-pos}
 use Rattle.ieee754.specs.MinMax.{absoluteOf}
 use Rattle.ieee754.specs.Root.{unitsOf}
-use Rattle.ieee754.proofs.FloatUnits.{units-exact, units-below-top}
+use Rattle.ieee754.proofs.FloatUnits.{units-of-zero, units-exact, units-below-top}
 use Rattle.ieee754.proofs.RootBounds.{top}
 use Rattle.ieee754.proofs.SquaredRoot.{D}
 
@@ -29,7 +29,7 @@ unitsOrTop nan = 0
 unitsOrTop (inf s) = top
 unitsOrTop (fin s m e) = unitsOf (fin s m e)
 
-or-split : (a b : Bool) → T (a || b) → T a ⊎ T b
+pub or-split : (a b : Bool) → T (a || b) → T a ⊎ T b
 or-split true b t = inl tt
 or-split false b t = inr t
 
@@ -66,6 +66,10 @@ units→le (fin false m e) (inf false) c d f g h = tt
 units→le (inf false) (fin false n d) c k f g h = absurd (not-le-of-lt (units-below-top false n d g) h)
 units→le (fin false m e) (fin false n d) c k f g h =
     le-of-values (fin false m e) (fin false n d) (unitsOf (fin false m e)) D (unitsOf (fin false n d)) D (pow-pos 1074) (pow-pos 1074) (refl, units-exact false m e f) (refl, units-exact false n d g) (mul-le-mul-right D h)
+
+-- a zero is at most any number with a clear sign
+pub zero-below-clear : (e : ℤ) (y : Float) → T (signClear y) → T (fits binary64 (fin false 0 e)) → T (fits binary64 y) → T (le (fin false 0 e) y)
+zero-below-clear e y c f g = units→le (fin false 0 e) y tt c f g (le-trans (le-of-eq (units-of-zero false e)) zero-le)
 
 -- ---- what is rounded with a clear sign has a clear sign
 odd-sign-clear : (d q k l : ℕ) → T (signClear (odd d false q k l))
@@ -107,13 +111,7 @@ absolute-nan (inf s) = refl
 absolute-nan (fin s m e) = refl
 
 pub number-of-absolute : (x : Float) → T (not (isNan (absoluteOf x))) → T (not (isNan x))
-unfolding isNan
-number-of-absolute nan n = absurd n
-number-of-absolute (inf s) n = tt
-number-of-absolute (fin s m e) n = tt
+number-of-absolute x n = subst (λ (b : Bool). T (not b)) (absolute-nan x) n
 
 pub absolute-number : (x : Float) → T (not (isNan x)) → T (not (isNan (absoluteOf x)))
-unfolding isNan
-absolute-number nan n = absurd n
-absolute-number (inf s) n = tt
-absolute-number (fin s m e) n = tt
+absolute-number x n = subst (λ (b : Bool). T (not b)) (sym (absolute-nan x)) n

@@ -13,7 +13,7 @@ use lib.Pow.{pow-pos}
 use Rattle.ieee754.specs.Root.{unitsOf}
 use Rattle.ieee754.proofs.FloatOrder.{le-transitive}
 use Rattle.ieee754.proofs.FloatUnits.{units-of-zero, units-exact, units-below-top}
-use Rattle.ieee754.proofs.NearDifferences.{zero-under}
+use Rattle.ieee754.proofs.Differences.{zero-under}
 use Rattle.ieee754.proofs.PatternValues.{units-of-float, units-have-53-digits}
 use Rattle.ieee754.proofs.SignClear.{signClear, units→le, round-sign-clear}
 use Rattle.ieee754.proofs.SquaredRoot.{D}

@@ -6,7 +6,7 @@ use native.Mathlib.Nat.{le-of-lt, mul-le-mul, mul-comm, mul-right-comm, mul-mul-
 use native.Mathlib.Omega.{arith}
 use lib.Dec.{T, leb, leb→le, le→leb}
 use lib.Ieee.Bits.{is-true}
-use lib.Ieee.Fits.{and-l, and-r}
+use lib.Ieee.Fits.{and-l, and-r, and-i}
 use Rattle.ieee754.specs.InnerRoot.{RootDigits, isIntegerRoot, trialRemainder}
 
 pub record Halves (q a b : ℕ) : Type 0 where
@@ -57,10 +57,6 @@ says-yes m q n e h =
     let both = is-true (leb (q * q) (m * 2 ^ 52) && leb (m * 2 ^ 52) (q * q + 2 * q)) (and-i (leb (q * q) (m * 2 ^ 52)) (leb (m * 2 ^ 52) (q * q + 2 * q)) (le→leb (q * q) (m * 2 ^ 52) (omega arith)) (le→leb (m * 2 ^ 52) (q * q + 2 * q) (omega arith))) in
     (sym both, rest (m * 2 ^ 52) (q * q) n e ∙ sym (ap (λ (b : Bool). cond b (m * 2 ^ 52 - q * q) 0) both))
   where
-    and-i : (a b : Bool) → T a → T b → T (a && b)
-    and-i true b x y = y
-    and-i false b x y = absurd x
-
     rest : (w s n : ℕ) → s + n ≡ w → n ≡ w - s
     rest w s n e = omega arith
 

@@ -1,5 +1,5 @@
 -- Minimum, maximum, clamp and absolute value of binary64 numbers. Definitions only.
-use mathlib.Core.Bool.{Bool, true, false, cond}
+use mathlib.Core.Bool.{false, cond}
 use lib.IntN.{pos}
 use lib.Ieee.{Float, nan, inf, fin, lt, isNan}
 

@@ -1,5 +1,5 @@
 -- The answers of the checks, by what the headers, the walks and the tests for 15 say. Assumes nothing.
-use mathlib.Core.Path.{_≡_, sym, ap, subst, _∙_}
+use mathlib.Core.Path.{_≡_, sym, ap, _∙_}
 use mathlib.Core.Bool.{true, false}
 use mathlib.Core.List.{List}
 use mathlib.Core.Option.{Option, none, some}

@@ -45,7 +45,7 @@ module _ (a b : List ℕ) (f1 n1 f2 n2 : ℕ) where
       go (some t) e = let i : checked.Refused t ≡ checked.Refused r = sym (p ∙ ap (λ (y : Option Refusal). checkedBy y a b) e) ∙ q in let same : t ≡ r = cc in ap some same
       go none e = let i : checked.Accepted (operandsOf a b) ≡ checked.Refused r = sym (p ∙ ap (λ (y : Option Refusal). checkedBy y a b) e) ∙ q in let z : _≡_ {A = ℕ} 0 1 = cc in absurd (omega arith)
 
-  -- a refusal is given exactly when a check gives it whose condition holds, and no earlier one holds
+  -- End theorem: a refusal is given exactly when a check gives it whose condition holds, and no earlier one holds
   pub refused-exactly : (r : Refusal) → (checkedOf a b f1 n1 f2 n2 ≡ checked.Refused r) ↔ ((i : ℕ) × (c : Check Refusal) × FirstAt (operandChecks a b f1 n1 f2 n2) r i c)
   unfolding checkedOf checkedBy
   refused-exactly r =

@@ -4,7 +4,7 @@ use mathlib.Core.Bool.{Bool, true, false, cond}
 use mathlib.Core.List.{List}
 use mathlib.Core.Option.{Option, none, some, orElse, Option·map, Option·some-ne-none, map-eq-none-iff}
 use Prim.Native.Nat.{ℕ}
-use Rattle.refusals.specs.Checks.{Check, check, firstOf, onSide}
+use Rattle.refusals.specs.Checks.{Check, firstOf, onSide}
 use Rattle.refusals.specs.declared.Refusal.{Refusal}
 use Rattle.refusals.proofs.Sides.{sided, first-on-side, first-of-two, first-of-one, none-of-both}
 use Rattle.gpb.specs.Header.{geometryStart, headerChecks3d}

@@ -1,7 +1,7 @@
 -- What is read from a workspace is what was written to it. Assumes nothing.
 use mathlib.Core.Path.{_≡_, refl, ap}
 use mathlib.Core.List.{List, [], _∷_, _++_, append-assoc, map}
-use Prim.Native.Nat.{ℕ, zero, suc, _+_, _*_, _≤_}
+use Prim.Native.Nat.{ℕ, _+_, _*_}
 use native.Mathlib.Omega.{arith}
 use lib.ListN.{length, length-append}
 use lib.Seq.{getD-append-add, getD-append-seam}
@@ -13,6 +13,7 @@ use Rattle.primitives.specs.declared.Point.{Point}
 use Rattle.parts.specs.Points.{pointOf}
 use Rattle.parts.specs.Stored.{pointAt, pointsFrom, runsFrom, storedRuns, pointCount, Laid}
 use Rattle.coords.proofs.Parts.{vertices-map}
+use Rattle.workspace.proofs.Contents.{length-coordinatesFloats}
 
 -- three floats on
 more-floats : (before : List Float) (c : Coordinate) (at : ℕ) → length before ≡ floatsPerCoordinate * at → length (before ++ coordinateFloats c) ≡ floatsPerCoordinate * (at + 1)
@@ -29,11 +30,6 @@ points-read before [] after at e = refl
 points-read before (c ∷ cs) after at e =
     rw (append-assoc (coordinateFloats c) (coordinatesFloats cs) after, point-read before c (coordinatesFloats cs ++ after) at e, ← append-assoc before (coordinateFloats c) (coordinatesFloats cs ++ after))
     (ap (λ (ps : List Point). pointOf c ∷ ps) (points-read (before ++ coordinateFloats c) cs after (at + 1) (more-floats before c at e)))
-
-length-coordinatesFloats : (cs : List Coordinate) → length (coordinatesFloats cs) ≡ floatsPerCoordinate * length cs
-unfolding coordinatesFloats coordinateFloats
-length-coordinatesFloats [] = refl
-length-coordinatesFloats (c ∷ cs) = omega (arith, length-coordinatesFloats cs)
 
 runs-read : (before : List Float) (rs : List (Run Coordinate)) (after : List Float) (at : ℕ) → length before ≡ floatsPerCoordinate * at → runsFrom (before ++ (floatsOf rs ++ after)) at (tableOf rs) ≡ mapRuns pointOf rs
 unfolding runsFrom floatsOf tableOf runNumbers mapRuns

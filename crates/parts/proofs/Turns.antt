@@ -2,15 +2,14 @@
 use mathlib.Core.Path.{_≡_, refl, ap}
 use mathlib.Core.List.{List, [], _∷_}
 use Prim.Native.Nat.{ℕ, zero, suc, _+_, _-_, _*_, _<_, _≤_}
-use native.Mathlib.Numerals.{sub-one, add-one}
+use native.Mathlib.Numerals.{sub-one}
 use native.Mathlib.Omega.{arith}
-use lib.ListN.{length, getD, drop, length-drop, drop-of-length-le}
+use lib.ListN.{length, drop, length-drop}
 use lib.Seq.{drop-cons}
 use lib.Ieee.{Float}
 use Rattle.workspace.specs.Workspace.{floatsPerCoordinate, numbersPerRun}
-use Rattle.coords.specs.Parts.{Run, run}
+use Rattle.coords.specs.Parts.{run}
 use Rattle.parts.specs.Stored.{pointAt, pointsFrom, runsFrom, runCount, kindAt, countAt, pointCount, Laid}
-use Rattle.primitives.specs.declared.Point.{Point}
 
 pub points-next : (floats : List Float) (at n : ℕ) → 0 < n → pointsFrom floats at n ≡ pointAt floats at ∷ pointsFrom floats (at + 1) (n - 1)
 unfolding pointsFrom

@@ -2,12 +2,12 @@
 use Prim.Native.Nat.{ℕ, zero, suc, _<_}
 use mathlib.Core.Path.{_≡_, refl, sym, ap, _∙_}
 use mathlib.Core.Logic.{_↔_}
-use mathlib.Core.Bool.{Bool, true, false, cond, true≢false}
+use mathlib.Core.Bool.{Bool, true, false, cond}
 use mathlib.Core.List.{List, [], _∷_, _++_}
-use mathlib.Core.Option.{Option, none, some, Option·none-ne-some, Option·some-injective}
+use mathlib.Core.Option.{none, some, Option·none-ne-some, Option·some-injective}
 use native.Mathlib.Omega.{arith}
 use lib.ListN.{getElem?}
-use Rattle.refusals.specs.Checks.{Check, check, firstOf, FirstAt}
+use Rattle.refusals.specs.Checks.{Check, firstOf, FirstAt}
 
 module _ {A : Type 0} where
   given-is-first : (cs : List (Check A)) (a : A) → firstOf cs ≡ some a → (i : ℕ) × (c : Check A) × FirstAt cs a i c

@@ -4,7 +4,7 @@
 use blob::BlobRead;
 use blob::Sizes;
 use refusals::Refusal;
-ghost use Prim.Native.Nat.{_≤_, _<_};
+ghost use Prim.Native.Nat.{_+_, _≤_, _<_};
 
 // What the workspace holds before a read: no sample has this ordinate, kind or count.
 const FLOAT_MARK: f64 = 123456789.125;
@@ -199,6 +199,25 @@ fn wide(x: u8) -> usize
     x as usize
 }
 
+// The length that a record begins with.
+fn size_at(s: &[u8], at: usize) -> usize
+    requires { do ⌜ at + 4 ≤ (← ⟦s.len()⟧) ⌝ }
+    ensures { λ r. ⌜ r < 4294967296 ⌝ }
+{
+    let low = wide(s[at]) + 256 * wide(s[at + 1]);
+    let high = wide(s[at + 2]) + 256 * wide(s[at + 3]);
+    low + 65536 * high
+}
+
+// A record's line.
+fn say_record(number: u64, b: &[u8]) {
+    io::print_decimal(1, number);
+    io::write_all(1, b" ");
+    read(b);
+    read_by_sizes(b);
+    io::write_all(1, b"\n");
+}
+
 // The line of the record at a place, and the place after it; s.len() where no whole record is left.
 fn record(s: &[u8], at: usize, number: u64) -> usize {
     let len = s.len();
@@ -208,19 +227,13 @@ fn record(s: &[u8], at: usize, number: u64) -> usize {
     if len - 4 < at {
         return len;
     }
-    let low = wide(s[at]) + 256 * wide(s[at + 1]);
-    let high = wide(s[at + 2]) + 256 * wide(s[at + 3]);
-    let n = low + 65536 * high;
+    let n = size_at(s, at);
     let start = at + 4;
     if len - start < n {
         return len;
     }
     let end = start + n;
-    io::print_decimal(1, number);
-    io::write_all(1, b" ");
-    read(&s[start..end]);
-    read_by_sizes(&s[start..end]);
-    io::write_all(1, b"\n");
+    say_record(number, &s[start..end]);
     end
 }
 
@@ -233,6 +246,11 @@ fn run(s: &[u8]) {
     }
 }
 
+// Room for a whole file. A function of its own, so that no proof looks into an array of this length.
+fn room() -> [u8; 262144] {
+    [0u8; 262144]
+}
+
 fn main() {
     let path = b"blobs";
     let fd = os::open_read(path);
@@ -240,7 +258,7 @@ fn main() {
         os::fail(path);
         return;
     }
-    let mut data = [0u8; 262144];
+    let mut data = room();
     let k = io::read_full(fd, &mut data);
     libc::close(fd);
     run(&data[..k]);

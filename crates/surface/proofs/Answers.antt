@@ -18,5 +18,6 @@ only-answer patch-range.Nothing = refl
 only-answer patch-range.NoSurface = refl
 only-answer (patch-range.Refused r) = refl
 
+-- End theorem: a contract that says the value says the answer
 pub value-decides : (r : PatchRange) (p : Patch) → patchValue r ≡ p → r ≡ answerFor p
 value-decides r p e = sym (only-answer r) ∙ ap answerFor e

@@ -115,7 +115,7 @@ module _ (s : List ℕ) where
       go (kind.Triangle at) h = nth-inside n (ok (record { start = at; end = length s } ∷ []) (length s)) ((h, omega arith), tt)
       go kind.NoSurface h = tt
 
-  -- a patch lies in its blob
+  -- End theorem: a patch lies in its blob
   pub patch-in-blob : (n start end : ℕ) → patchOf s n ≡ part start end → InBlob start end
   unfolding Answered
   patch-in-blob n start end e = subst Answered e (patch-answered n)

@@ -1,4 +1,4 @@
--- Worked examples of patches, computed by the checker: two patches with a byte after them, damage in the second, and types with the SRID flag and no SRID. Assumes nothing.
+-- End theorems: worked examples of patches, computed by the checker: two patches with a byte after them, damage in the second, and types with the SRID flag and no SRID. Assumes nothing.
 use mathlib.Core.Path.{_≡_, refl}
 use mathlib.Core.List.{List, [], _∷_, _++_}
 use Prim.Native.Nat.{ℕ}

@@ -13,7 +13,7 @@ use Rattle.fields.specs.Fields.{u32At}
 use Rattle.coords.specs.Walk.{Parsed, ok, refused, consParsed, andThen, times, listAt, headerAt}
 use Rattle.coords.specs.declared.ParsedHeader.{ParsedHeader}
 use Rattle.coords.specs.declared.ParsedHeader.the-variants as header
-use Rattle.surface.specs.Patches.{Range, patchAt, patchesFrom, surfaceKind, surfaceByKind, surfaceOf, part, nothing, patchThere, patchIn, patchOfSurface, patchOf, bytesOf, firstStart, listIn, listOfSurface, listOf, patchScanned, nextByKind, nextOf, Before}
+use Rattle.surface.specs.Patches.{Range, patchAt, patchesFrom, surfaceKind, surfaceByKind, surfaceOf, part, patchThere, patchIn, patchOfSurface, patchOf, firstStart, listIn, listOfSurface, listOf, patchScanned, nextByKind, nextOf, Before}
 use Rattle.surface.specs.Inner.{endOf}
 use Rattle.surface.specs.declared.SurfaceKind.{SurfaceKind}
 use Rattle.surface.specs.declared.SurfaceKind.the-variants as kind

@@ -68,6 +68,7 @@ numbered-answer s n = go (surfaceKind s)
     go (kind.Triangle at) = numbered-nth n (ok _ _) tt
     go kind.NoSurface = tt
 
+-- End theorem: a patch is refused with no other number, and never as side 2
 pub patch-refusals : (s : List ℕ) (n k side : ℕ) → patchOf s n ≡ refusing k side → PatchNumber k × (side ≡ 1)
 unfolding NumberedAnswer
 patch-refusals s n k side e = subst NumberedAnswer e (numbered-answer s n)

@@ -1,17 +1,16 @@
--- Laws of what a workspace holds: how much, of runs in a row, and under a map of the coordinates. Assumes nothing.
+-- Laws of what a workspace holds: how much, and of runs in a row. Assumes nothing.
 use mathlib.Core.Path.{_≡_, refl, sym, ap, _∙_}
-use mathlib.Core.List.{List, [], _∷_, _++_, append-assoc, map}
-use Prim.Native.Nat.{ℕ, _+_, _*_}
+use mathlib.Core.List.{List, [], _∷_, _++_, append-assoc}
+use Prim.Native.Nat.{ℕ, _*_}
 use native.Mathlib.Omega.{arith}
 use lib.ListN.{length, length-append}
 use lib.Ieee.{Float}
 use Rattle.coords.specs.Walk.{Coordinate}
-use Rattle.coords.specs.Parts.{Run, run, mapRuns, coordinateCount}
-use Rattle.coords.proofs.Parts.{map-length}
+use Rattle.coords.specs.Parts.{Run, run, coordinateCount}
 use Rattle.workspace.specs.Workspace.{floatsPerCoordinate, numbersPerRun, coordinateFloats, runNumbers, coordinatesFloats, floatsOf, tableOf}
 use Rattle.workspace.proofs.Laws.{length-coordinateFloats}
 
-length-coordinatesFloats : (cs : List Coordinate) → length (coordinatesFloats cs) ≡ floatsPerCoordinate * length cs
+pub length-coordinatesFloats : (cs : List Coordinate) → length (coordinatesFloats cs) ≡ floatsPerCoordinate * length cs
 unfolding coordinatesFloats
 length-coordinatesFloats [] = refl
 length-coordinatesFloats (c ∷ cs) = length-append (coordinateFloats c) (coordinatesFloats cs) ∙ omega (arith, length-coordinateFloats c, length-coordinatesFloats cs)
@@ -37,9 +36,3 @@ pub table-append : {A : Type 0} (rs qs : List (Run A)) → tableOf (rs ++ qs) �
 unfolding tableOf runNumbers
 table-append [] qs = refl
 table-append (run k vs ∷ rs) qs = ap (λ (l : List ℕ). runNumbers k vs ++ l) (table-append rs qs)
-
--- kinds and counts stay where coordinates are mapped
-pub table-map : {A B : Type 0} (f : A → B) (rs : List (Run A)) → tableOf (mapRuns f rs) ≡ tableOf rs
-unfolding tableOf runNumbers mapRuns
-table-map f [] = refl
-table-map f (run k cs ∷ rs) = rw (map-length f cs, table-map f rs)

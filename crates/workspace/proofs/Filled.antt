@@ -1,8 +1,8 @@
 -- What the filling pass needs and leaves where it starts at nothing written. Assumes nothing.
 use mathlib.Core.Path.{sym, _∙_}
-use mathlib.Core.Bool.{true, true≢false}
+use mathlib.Core.Bool.{true≢false}
 use mathlib.Core.List.{List}
-use Prim.Native.Nat.{ℕ, _*_, _≤_}
+use Prim.Native.Nat.{ℕ}
 use native.Mathlib.Omega.{arith}
 use lib.ListN.{length}
 use lib.Ieee.{Float}
@@ -10,7 +10,7 @@ use Rattle.fields.proofs.Stores.{sets-front}
 use Rattle.coords.specs.Walk.{Geometry, Parsed, ok, refused, mapParsed}
 use Rattle.coords.specs.Parts.{runsOf, walkedRuns}
 use Rattle.coords.specs.Refusals.{isAccepted}
-use Rattle.workspace.specs.Workspace.{floatsPerCoordinate, numbersPerRun, floatsOf, tableOf, floatsNeeded, numbersNeeded, floatsWith, tableWith, Room, Written}
+use Rattle.workspace.specs.Workspace.{floatsOf, tableOf, floatsNeeded, numbersNeeded, floatsWith, tableWith, Room, Written}
 use Rattle.workspace.specs.Inner.{floatsAfter, tableAfter, Ready, Filled}
 use Rattle.workspace.specs.declared.Progress.{Progress}
 use Rattle.workspace.proofs.Contents.{length-floats, length-table}

@@ -5,9 +5,6 @@ use Rattle.ieee754.proofs.Patterns.{nan-pattern, no-nan-pattern, zero-o
 use Rattle.ieee754.proofs.from_pattern.Statement.{statement}
 use Rattle.ieee754.proofs.from_pattern.Tie as tie
 
-float-from-bits-result : tie.Need-float-from-bits-result
-float-from-bits-result c = no-nan-pattern _ (c .if1 .left)
-
 returns : tie.Need-returns
 returns c = zero-over-zero ∙ sym (nan-pattern _ (c .if1 .taken))
 
@@ -15,4 +12,4 @@ returns-2 : tie.Need-returns-2
 returns-2 c = search needs
 
 pub from-pattern-spec : {M : Type 1} → statement M
-from-pattern-spec = tie.close (tie.spec float-from-bits-result returns returns-2)
+from-pattern-spec = tie.close (tie.spec (λ c. no-nan-pattern _ (c .if1 .left)) returns returns-2)

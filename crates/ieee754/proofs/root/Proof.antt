@@ -33,9 +33,6 @@ returns-4 c = both (c .before .before .before .before) _ (root-of-infinite-test 
 above : (c : tie.Else4) → T (positive (c .before .before .before .before .args .s))
 above c = positive-otherwise (c .before .before .before .before .args .s) (c .before .before .before .if1 .left) (c .before .before .if2 .left) (c .before .if3 .left) (c .if4 .left)
 
-float-to-bits-b : tie.Need-float-to-bits-b
-float-to-bits-b c = positive-number (c .before .before .before .before .args .s) (above c)
-
 root-pattern-requires : tie.Need-root-pattern-requires
 root-pattern-requires c κs = positive-finite-pattern (c .before .before .before .before .args .s) (held (c .before .before .before .before)) (above c)
 
@@ -48,4 +45,7 @@ returns-5 c =
     both (e .before .before .before .before) _ (ap (λ (z : ℕ). ofBits binary64 z) (c .root-pattern .ensures .0) ∙ root-of-positive-pattern (e .before .before .before .before .args .s) (held (e .before .before .before .before)) (above e))
 
 pub root-spec : {M : Type 1} → statement M
-root-spec = tie.close (tie.spec returns returns-2 returns-3 returns-4 float-to-bits-b root-pattern-requires float-from-bits-result returns-5)
+root-spec =
+    tie.close (tie.spec returns returns-2 returns-3 returns-4
+    (λ c. positive-number (c .before .before .before .before .args .s) (above c)) root-pattern-requires
+    float-from-bits-result returns-5)

@@ -12,36 +12,6 @@ Inv-loop m q₀ rest₀ x₀ i₀ q rest x i = DigitsSoFar m q rest x i
 abbrev μ-loop : tie.MeasureT-loop
 μ-loop m q₀ rest₀ x₀ i₀ q rest x i = 53 - i
 
-loop-holds : tie.Need-loop-holds Inv-loop μ-loop
-loop-holds c = digits-start (c .args .m) (c .pre)
-
-mul-x : tie.Need-mul-x Inv-loop μ-loop
-mul-x c = omega arith
-
-mul-rest : tie.Need-mul-rest Inv-loop μ-loop
-mul-rest c = omega arith
-
-add-rest : tie.Need-add-rest Inv-loop μ-loop
-add-rest c = omega arith
-
-mul-t : tie.Need-mul-t Inv-loop μ-loop
-mul-t c = omega arith
-
-add-t : tie.Need-add-t Inv-loop μ-loop
-add-t c = omega arith
-
-mul-q : tie.Need-mul-q Inv-loop μ-loop
-mul-q c = omega arith
-
-add-q : tie.Need-add-q Inv-loop μ-loop
-add-q c = omega arith
-
-add-i : tie.Need-add-i Inv-loop μ-loop
-add-i c = omega arith
-
-loop-less : tie.Need-loop-less Inv-loop μ-loop
-loop-less c = omega arith
-
 loop-again : tie.Need-loop-again Inv-loop μ-loop
 loop-again c =
     let l = c .before .before .loop in
@@ -56,4 +26,7 @@ returns : tie.Need-returns Inv-loop μ-loop
 returns c = let l = c .before .loop in digits-finish (c .before .before .args .m) (l .q) (l .rest) (l .x) (l .i) (omega arith) (l .inv)
 
 pub root-digits-spec : {M : Type 1} → statement M
-root-digits-spec = tie.close (tie.spec Inv-loop μ-loop loop-holds mul-x mul-rest add-rest mul-t add-t mul-q add-q add-i loop-less loop-again returns)
+root-digits-spec =
+    tie.close (tie.spec Inv-loop μ-loop (λ c. digits-start (c .args .m) (c .pre)) (λ c. omega arith)
+    (λ c. omega arith) (λ c. omega arith) (λ c. omega arith) (λ c. omega arith) (λ c. omega arith)
+    (λ c. omega arith) (λ c. omega arith) (λ c. omega arith) loop-again returns)

@@ -6,42 +6,12 @@ use Rattle.ieee754.proofs.Normalization.{EvenExponent, even-exponent, o
 use Rattle.ieee754.proofs.root_pattern.Statement.{statement}
 use Rattle.ieee754.proofs.root_pattern.Tie as tie
 
-normalized-requires : tie.Need-normalized-requires
-normalized-requires c κs = search needs
-
-add-g : tie.Need-add-g
-add-g c = search needs
-
-sub-c : tie.Need-sub-c
-sub-c c = search needs
-
-mul-m : tie.Need-mul-m
-mul-m c = search needs
-
 -- where the branch on the parity's arms meet
 halved : (c : tie.Joined1) → EvenExponent (c .before .before .before .args .b) (c .if1 .m) ((c .before .before .normalized .result .exponent + 1022) / 2 - 26)
 halved c =
     let s = c .before .before .normalized in
     let b = c .before .before .before .args .b in
     ⊎-elim (λ w. rw (w .1) (odd-exponent b (s .result .digits) (s .result .exponent) (s .ensures) (w .0 .taken))) (λ w. rw (w .1) (even-exponent b (s .result .digits) (s .result .exponent) (s .ensures) (w .0 .left))) (c .if1 .came)
-
-integer-root-requires : tie.Need-integer-root-requires
-integer-root-requires c κs = halved c .high
-
-mul-result : tie.Need-mul-result
-mul-result c = search needs
-
-add-result : tie.Need-add-result
-add-result c = search needs
-
-add-result-2 : tie.Need-add-result-2
-add-result-2 c = search needs
-
-mul-result-2 : tie.Need-mul-result-2
-mul-result-2 c = search needs
-
-add-result-3 : tie.Need-add-result-3
-add-result-3 c = search needs
 
 returns : tie.Need-returns
 returns c =
@@ -56,4 +26,7 @@ returns-2 c =
     root-rounds-down (j .before .before .before .args .b) (j .if1 .m) ((j .before .before .normalized .result .exponent + 1022) / 2 - 26) (d .result .digits) (d .result .remainder) (halved j) (d .ensures) (c .if2 .left)
 
 pub root-pattern-spec : {M : Type 1} → statement M
-root-pattern-spec = tie.close (tie.spec normalized-requires add-g sub-c mul-m integer-root-requires mul-result add-result add-result-2 mul-result-2 add-result-3 returns returns-2)
+root-pattern-spec =
+    tie.close (tie.spec (λ c κs. search needs) (λ c. search needs) (λ c. search needs) (λ c. search needs)
+    (λ c κs. halved c .high) (λ c. search needs) (λ c. search needs) (λ c. search needs) (λ c. search needs)
+    (λ c. search needs) returns returns-2)

@@ -7,11 +7,8 @@ use Rattle.ieee754.proofs.to_pattern.Tie as tie
 returns : tie.Need-returns
 returns c = nan-to-pattern (c .before .args .x) (c .if1 .taken)
 
-float-to-bits-result : tie.Need-float-to-bits-result
-float-to-bits-result c = number-not-nan (c .before .args .x) (c .if1 .left)
-
 returns-2 : tie.Need-returns-2
 returns-2 c = search needs
 
 pub to-pattern-spec : {M : Type 1} → statement M
-to-pattern-spec = tie.close (tie.spec returns float-to-bits-result returns-2)
+to-pattern-spec = tie.close (tie.spec returns (λ c. number-not-nan (c .before .args .x) (c .if1 .left)) returns-2)

@@ -5,24 +5,6 @@ use borrow.Author.Needs.{needs}
 use Rattle.operands.proofs.check.Statement.{statement}
 use Rattle.operands.proofs.check.Tie as tie
 
-read-header-3d-requires : tie.Need-read-header-3d-requires
-read-header-3d-requires c κs = search needs
-
-enum-known-refusal : tie.Need-enum-known-refusal
-enum-known-refusal c = search needs
-
-enum-known-top1 : tie.Need-enum-known-top1
-enum-known-top1 c = search needs
-
-read-header-3d-requires-2 : tie.Need-read-header-3d-requires-2
-read-header-3d-requires-2 c κs = search needs
-
-enum-known-refusal-2 : tie.Need-enum-known-refusal-2
-enum-known-refusal-2 c = search needs
-
-enum-known-top2 : tie.Need-enum-known-top2
-enum-known-top2 c = search needs
-
 check-walks-requires : tie.Need-check-walks-requires
 check-walks-requires c κs =
     let e = c .before .before .before .before .before .before .before .before .before .before in
@@ -46,15 +28,5 @@ returns-3 c = search needs
 
 pub check-spec : {M : Type 1} → statement M
 check-spec =
-    tie.close
-    (tie.spec
-    read-header-3d-requires
-    enum-known-refusal
-    enum-known-top1
-    read-header-3d-requires-2
-    enum-known-refusal-2
-    enum-known-top2
-    check-walks-requires
-    returns
-    returns-2
-    returns-3)
+    tie.close (tie.spec (λ c κs. search needs) (λ c. search needs) (λ c. search needs) (λ c κs. search needs)
+    (λ c. search needs) (λ c. search needs) check-walks-requires returns returns-2 returns-3)

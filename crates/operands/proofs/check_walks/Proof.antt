@@ -5,42 +5,6 @@ use borrow.Author.Needs.{needs}
 use Rattle.operands.proofs.check_walks.Statement.{statement}
 use Rattle.operands.proofs.check_walks.Tie as tie
 
-read-walk-requires : tie.Need-read-walk-requires
-read-walk-requires c κs = search needs
-
-enum-known-refusal : tie.Need-enum-known-refusal
-enum-known-refusal c = search needs
-
-enum-known-first : tie.Need-enum-known-first
-enum-known-first c = search needs
-
-read-walk-requires-2 : tie.Need-read-walk-requires-2
-read-walk-requires-2 c κs = search needs
-
-enum-known-refusal-2 : tie.Need-enum-known-refusal-2
-enum-known-refusal-2 c = search needs
-
-enum-known-second : tie.Need-enum-known-second
-enum-known-second c = search needs
-
-check-room-requires : tie.Need-check-room-requires
-check-room-requires c κs = search needs
-
-enum-known-refusal-3 : tie.Need-enum-known-refusal-3
-enum-known-refusal-3 c = search needs
-
-enum-told : tie.Need-enum-told
-enum-told c = search needs
-
-check-room-requires-2 : tie.Need-check-room-requires-2
-check-room-requires-2 c κs = search needs
-
-enum-known-refusal-4 : tie.Need-enum-known-refusal-4
-enum-known-refusal-4 c = search needs
-
-enum-told-2 : tie.Need-enum-told-2
-enum-told-2 c = search needs
-
 returns : tie.Need-returns
 returns c =
     let e = c .before .before .before .before .before .before in
@@ -77,22 +41,6 @@ returns-5 c =
 
 pub check-walks-spec : {M : Type 1} → statement M
 check-walks-spec =
-    tie.close
-    (tie.spec
-    read-walk-requires
-    enum-known-refusal
-    enum-known-first
-    read-walk-requires-2
-    enum-known-refusal-2
-    enum-known-second
-    check-room-requires
-    enum-known-refusal-3
-    enum-told
-    check-room-requires-2
-    enum-known-refusal-4
-    enum-told-2
-    returns
-    returns-2
-    returns-3
-    returns-4
-    returns-5)
+    tie.close (tie.spec (λ c κs. search needs) (λ c. search needs) (λ c. search needs) (λ c κs. search needs)
+    (λ c. search needs) (λ c. search needs) (λ c κs. search needs) (λ c. search needs) (λ c. search needs)
+    (λ c κs. search needs) (λ c. search needs) (λ c. search needs) returns returns-2 returns-3 returns-4 returns-5)

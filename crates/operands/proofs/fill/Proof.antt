@@ -12,29 +12,10 @@ fill-requires c κs = let e = c .before .before .before .before .before .before 
 fill-requires-2 : tie.Need-fill-requires-2
 fill-requires-2 c κs = let e = c .before .before .before .before .before .before .before .before .before .before .before .before .before .before .before .before .before in room-at (e .args .b .now) _ _ _ (ap (λ (o : Operands). o .second .at) (e .pre .0)) (e .pre .1 .second)
 
-same-length : tie.Need-same-length
-same-length c = search needs
-
-same-length-2 : tie.Need-same-length-2
-same-length-2 c = search needs
-
-same-length-3 : tie.Need-same-length-3
-same-length-3 c = search needs
-
-same-length-4 : tie.Need-same-length-4
-same-length-4 c = search needs
-
 returns : tie.Need-returns
 returns c = let e = c .before .before .before .before .before .before .before .before .before .before .before .before .before .before .before .before .before .before .before .before .before .before in both-filled (e .args .a .now) (e .args .b .now) _ _ _ _ _ _ _ _ _ _ (ap (λ (o : Operands). o .first .at) (e .pre .0)) (ap (λ (o : Operands). o .second .at) (e .pre .0)) (c .before .before .before .before .before .before .before .before .before .before .before .fill .ensures) (c .before .before .before .before .fill2 .ensures)
 
 pub fill-spec : {M : Type 1} → statement M
 fill-spec =
-    tie.close
-    (tie.spec
-    fill-requires
-    fill-requires-2
-    same-length
-    same-length-2
-    same-length-3
-    same-length-4
-    returns)
+    tie.close (tie.spec fill-requires fill-requires-2 (λ c. search needs) (λ c. search needs) (λ c. search needs)
+    (λ c. search needs) returns)

@@ -11,49 +11,8 @@ Inv-loop floats held i₀ i = Unit {0}
 abbrev μ-loop : tie.MeasureT-loop
 μ-loop floats held i₀ i = length floats - i
 
-returns : tie.Need-returns Inv-loop μ-loop
-returns c = search needs
-
-loop-holds : tie.Need-loop-holds Inv-loop μ-loop
-loop-holds c = search needs
-
-mul-float-right : tie.Need-mul-float-right Inv-loop μ-loop
-mul-float-right c = search needs
-
-shared-slice-read-float-right : tie.Need-shared-slice-read-float-right Inv-loop μ-loop
-shared-slice-read-float-right c = search needs
-
-float-right-requires : tie.Need-float-right-requires Inv-loop μ-loop
-float-right-requires c κs = search needs
-
-returns-2 : tie.Need-returns-2 Inv-loop μ-loop
-returns-2 c = search needs
-
-add-i : tie.Need-add-i Inv-loop μ-loop
-add-i c = search needs
-
-loop-less : tie.Need-loop-less Inv-loop μ-loop
-loop-less c = search needs
-
-loop-again : tie.Need-loop-again Inv-loop μ-loop
-loop-again c = search needs
-
-returns-3 : tie.Need-returns-3 Inv-loop μ-loop
-returns-3 c = search needs
-
 pub floats-right-spec : {M : Type 1} → statement M
 floats-right-spec =
-    tie.close
-    (tie.spec
-    Inv-loop
-    μ-loop
-    returns
-    loop-holds
-    mul-float-right
-    shared-slice-read-float-right
-    float-right-requires
-    returns-2
-    add-i
-    loop-less
-    loop-again
-    returns-3)
+    tie.close (tie.spec Inv-loop μ-loop (λ c. search needs) (λ c. search needs) (λ c. search needs)
+    (λ c. search needs) (λ c κs. search needs) (λ c. search needs) (λ c. search needs) (λ c. search needs)
+    (λ c. search needs) (λ c. search needs))

@@ -11,61 +11,8 @@ Inv-loop name s at₀ records₀ differing₀ patches₀ patches-differing₀ at
 abbrev μ-loop : tie.MeasureT-loop
 μ-loop name s at₀ records₀ differing₀ patches₀ patches-differing₀ at records differing patches patches-differing = 1000000 - records
 
-loop-holds : tie.Need-loop-holds Inv-loop μ-loop
-loop-holds c = search needs
-
-part-requires : tie.Need-part-requires Inv-loop μ-loop
-part-requires c κs = search needs
-
-replay-first-requires : tie.Need-replay-first-requires Inv-loop μ-loop
-replay-first-requires c κs = search needs
-
-report-requires : tie.Need-report-requires Inv-loop μ-loop
-report-requires c κs = search needs
-
-add-differing : tie.Need-add-differing Inv-loop μ-loop
-add-differing c = search needs
-
-add-patches : tie.Need-add-patches Inv-loop μ-loop
-add-patches c = search needs
-
-add-patches-differing : tie.Need-add-patches-differing Inv-loop μ-loop
-add-patches-differing c = search needs
-
-next-requires : tie.Need-next-requires Inv-loop μ-loop
-next-requires c κs = search needs
-
-add-records : tie.Need-add-records Inv-loop μ-loop
-add-records c = search needs
-
-loop-less : tie.Need-loop-less Inv-loop μ-loop
-loop-less c = search needs
-
-loop-again : tie.Need-loop-again Inv-loop μ-loop
-loop-again c = search needs
-
-summary-requires : tie.Need-summary-requires Inv-loop μ-loop
-summary-requires c κs = search needs
-
-returns : tie.Need-returns Inv-loop μ-loop
-returns c = search needs
-
 pub run-spec : {M : Type 1} → statement M
 run-spec =
-    tie.close
-    (tie.spec
-    Inv-loop
-    μ-loop
-    loop-holds
-    part-requires
-    replay-first-requires
-    report-requires
-    add-differing
-    add-patches
-    add-patches-differing
-    next-requires
-    add-records
-    loop-less
-    loop-again
-    summary-requires
-    returns)
+    tie.close (tie.spec Inv-loop μ-loop (λ c. search needs) (λ c κs. search needs) (λ c κs. search needs)
+    (λ c κs. search needs) (λ c. search needs) (λ c. search needs) (λ c. search needs) (λ c κs. search needs)
+    (λ c. search needs) (λ c. search needs) (λ c. search needs) (λ c κs. search needs) (λ c. search needs))

@@ -5,15 +5,9 @@ use borrow.Author.Needs.{needs}
 use Rattle.replies.proofs.refused.Statement.{statement}
 use Rattle.replies.proofs.refused.Tie as tie
 
-cast-t2 : tie.Need-cast-t2
-cast-t2 c = search needs
-
-cast-t3 : tie.Need-cast-t3
-cast-t3 c = search needs
-
 returns : tie.Need-returns
 unfolding ofBits
 returns c = refl
 
 pub refused-spec : {M : Type 1} → statement M
-refused-spec = tie.close (tie.spec cast-t2 cast-t3 returns)
+refused-spec = tie.close (tie.spec (λ c. search needs) (λ c. search needs) returns)

@@ -5,24 +5,6 @@ use borrow.Author.Needs.{needs}
 use Rattle.replies.proofs.reply_to_answer.Statement.{statement}
 use Rattle.replies.proofs.reply_to_answer.Tie as tie
 
-enum-known-answer : tie.Need-enum-known-answer
-enum-known-answer c = search needs
-
-answered-requires : tie.Need-answered-requires
-answered-requires c κs = search needs
-
-enum-told : tie.Need-enum-told
-enum-told c = search needs
-
-nothing-requires : tie.Need-nothing-requires
-nothing-requires c κs = search needs
-
-enum-known-answer-2 : tie.Need-enum-known-answer-2
-enum-known-answer-2 c = search needs
-
-refused-requires : tie.Need-refused-requires
-refused-requires c κs = search needs
-
 returns : tie.Need-returns
 unfolding replyOf replyOfValue answerReport
 returns c = rw (c .answered .ensures, c .before .before .answer .given .1)
@@ -37,14 +19,5 @@ returns-3 c = rw (c .refused .ensures, c .before .before .answer2 .given .1)
 
 pub reply-to-answer-spec : {M : Type 1} → statement M
 reply-to-answer-spec =
-    tie.close
-    (tie.spec
-    enum-known-answer
-    answered-requires
-    enum-told
-    nothing-requires
-    enum-known-answer-2
-    refused-requires
-    returns
-    returns-2
-    returns-3)
+    tie.close (tie.spec (λ c. search needs) (λ c κs. search needs) (λ c. search needs) (λ c κs. search needs)
+    (λ c. search needs) (λ c κs. search needs) returns returns-2 returns-3)

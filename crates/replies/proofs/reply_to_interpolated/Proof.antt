@@ -6,18 +6,6 @@ use borrow.Author.Needs.{needs}
 use Rattle.replies.proofs.reply_to_interpolated.Statement.{statement}
 use Rattle.replies.proofs.reply_to_interpolated.Tie as tie
 
-enum-told : tie.Need-enum-told
-enum-told c = search needs
-
-answered-requires : tie.Need-answered-requires
-answered-requires c κs = search needs
-
-enum-known-interpolated : tie.Need-enum-known-interpolated
-enum-known-interpolated c = search needs
-
-refused-requires : tie.Need-refused-requires
-refused-requires c κs = search needs
-
 returns : tie.Need-returns
 unfolding replyOf replyOfValue reportOf ofBits
 returns c = rw (c .answered .ensures, c .before .enum-told .given .1)
@@ -28,11 +16,5 @@ returns-2 c = rw (c .refused .ensures, c .before .before .interpolated .given .1
 
 pub reply-to-interpolated-spec : {M : Type 1} → statement M
 reply-to-interpolated-spec =
-    tie.close
-    (tie.spec
-    enum-told
-    answered-requires
-    enum-known-interpolated
-    refused-requires
-    returns
-    returns-2)
+    tie.close (tie.spec (λ c. search needs) (λ c κs. search needs) (λ c. search needs) (λ c κs. search needs)
+    returns returns-2)

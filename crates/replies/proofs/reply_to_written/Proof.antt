@@ -6,24 +6,6 @@ use borrow.Author.Needs.{needs}
 use Rattle.replies.proofs.reply_to_written.Statement.{statement}
 use Rattle.replies.proofs.reply_to_written.Tie as tie
 
-enum-told : tie.Need-enum-told
-enum-told c = search needs
-
-answered-requires : tie.Need-answered-requires
-answered-requires c κs = search needs
-
-enum-told-2 : tie.Need-enum-told-2
-enum-told-2 c = search needs
-
-nothing-requires : tie.Need-nothing-requires
-nothing-requires c κs = search needs
-
-enum-known-written : tie.Need-enum-known-written
-enum-known-written c = search needs
-
-refused-requires : tie.Need-refused-requires
-refused-requires c κs = search needs
-
 returns : tie.Need-returns
 unfolding replyOf replyOfValue writtenReport ofBits
 returns c = rw (c .answered .ensures, c .before .enum-told .given .1)
@@ -38,14 +20,5 @@ returns-3 c = rw (c .refused .ensures, c .before .before .written .given .1)
 
 pub reply-to-written-spec : {M : Type 1} → statement M
 reply-to-written-spec =
-    tie.close
-    (tie.spec
-    enum-told
-    answered-requires
-    enum-told-2
-    nothing-requires
-    enum-known-written
-    refused-requires
-    returns
-    returns-2
-    returns-3)
+    tie.close (tie.spec (λ c. search needs) (λ c κs. search needs) (λ c. search needs) (λ c κs. search needs)
+    (λ c. search needs) (λ c κs. search needs) returns returns-2 returns-3)

@@ -8,27 +8,9 @@ use borrow.Author.Needs.{needs}
 use Rattle.surface.proofs.count_patches.Statement.{statement}
 use Rattle.surface.proofs.count_patches.Tie as tie
 
-read-header-requires : tie.Need-read-header-requires
-read-header-requires c κs = search needs
-
-enum-known-k : tie.Need-enum-known-k
-enum-known-k c = search needs
-
-enum-known-h : tie.Need-enum-known-h
-enum-known-h c = search needs
-
-is-short-requires : tie.Need-is-short-requires
-is-short-requires c κs = search needs
-
 returns : tie.Need-returns
 unfolding countFrom
 returns c = simp (← (c .before .before .before .before .before .read-header .ensures), (c .before .before .before .h .given) .1, ← (c .before .is-short .ensures), (c .if1 .taken))
-
-u32-at-requires : tie.Need-u32-at-requires
-u32-at-requires c κs = room _ _ _ (c .before .is-short .ensures) (c .if1 .left)
-
-cast-count : tie.Need-cast-count
-cast-count c = search needs
 
 add-t10 : tie.Need-add-t10
 add-t10 c = omega (arith, room (c .before .before .is-short .result) (length (c .before .before .before .before .before .before .before .before .args .s .now)) ((c .before .before .before .before .h .given) .0 .0 .body + 4) (c .before .before .is-short .ensures) (c .before .if1 .left))
@@ -43,15 +25,6 @@ returns-3 c = simp (← (c .before .before .before .before .before .before .read
 
 pub count-patches-spec : {M : Type 1} → statement M
 count-patches-spec =
-    tie.close
-    (tie.spec
-    read-header-requires
-    enum-known-k
-    enum-known-h
-    is-short-requires
-    returns
-    u32-at-requires
-    cast-count
-    add-t10
-    returns-2
+    tie.close (tie.spec (λ c κs. search needs) (λ c. search needs) (λ c. search needs) (λ c κs. search needs)
+    returns (λ c κs. room _ _ _ (c .before .is-short .ensures) (c .if1 .left)) (λ c. search needs) add-t10 returns-2
     returns-3)

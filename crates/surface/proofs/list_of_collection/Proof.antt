@@ -6,24 +6,6 @@ use borrow.Author.Needs.{needs}
 use Rattle.surface.proofs.list_of_collection.Statement.{statement}
 use Rattle.surface.proofs.list_of_collection.Tie as tie
 
-count-patches-requires : tie.Need-count-patches-requires
-count-patches-requires c κs = search needs
-
-enum-known-k : tie.Need-enum-known-k
-enum-known-k c = search needs
-
-enum-known-first : tie.Need-enum-known-first
-enum-known-first c = search needs
-
-scan-patches-requires : tie.Need-scan-patches-requires
-scan-patches-requires c κs = search needs
-
-enum-known-k-2 : tie.Need-enum-known-k-2
-enum-known-k-2 c = search needs
-
-enum-known-end : tie.Need-enum-known-end
-enum-known-end c = search needs
-
 returns : tie.Need-returns
 unfolding listIn
 returns c = sym (ap listIn (collection-refused _ _ _ (sym (c .before .before .before .count-patches .ensures) ∙ (c .before .k .given) .1)))
@@ -36,14 +18,5 @@ returns-3 c = sym (ap listIn (collection-counted _ _ _ _ (sym (c .before .before
 
 pub list-of-collection-spec : {M : Type 1} → statement M
 list-of-collection-spec =
-    tie.close
-    (tie.spec
-    count-patches-requires
-    enum-known-k
-    enum-known-first
-    scan-patches-requires
-    enum-known-k-2
-    enum-known-end
-    returns
-    returns-2
-    returns-3)
+    tie.close (tie.spec (λ c κs. search needs) (λ c. search needs) (λ c. search needs) (λ c κs. search needs)
+    (λ c. search needs) (λ c. search needs) returns returns-2 returns-3)

@@ -16,12 +16,6 @@ inside : (s : List ℕ) (at left start end : ℕ) (r : PatchRange) → patchValu
 unfolding patchValue
 inside s at left start end r e p = next-in-blob s at left start end (sym e ∙ ap patchValue p)
 
-next-range-requires : tie.Need-next-range-requires
-next-range-requires c κs = search needs
-
-enum-known-start : tie.Need-enum-known-start
-enum-known-start c = search needs
-
 sub-result : tie.Need-sub-result
 sub-result c = omega (arith, inside (c .before .before .before .before .before .args .s .now) _ _ _ _ _ (c .before .before .before .next-range .ensures) (c .before .start .given .1))
 
@@ -30,24 +24,6 @@ part-result-start c = omega (arith, inside (c .before .before .before .before .b
 
 part-result-end : tie.Need-part-result-end
 part-result-end c = omega (arith, inside (c .before .before .before .before .before .args .s .now) _ _ _ _ _ (c .before .before .before .next-range .ensures) (c .before .start .given .1))
-
-enum-told : tie.Need-enum-told
-enum-told c = search needs
-
-slice-aggregate-result : tie.Need-slice-aggregate-result
-slice-aggregate-result c = search needs
-
-enum-told-2 : tie.Need-enum-told-2
-enum-told-2 c = search needs
-
-slice-aggregate-result-2 : tie.Need-slice-aggregate-result-2
-slice-aggregate-result-2 c = search needs
-
-enum-known-refusal : tie.Need-enum-known-refusal
-enum-known-refusal c = search needs
-
-slice-aggregate-result-3 : tie.Need-slice-aggregate-result-3
-slice-aggregate-result-3 c = search needs
 
 returns : tie.Need-returns
 unfolding bytesOf patchValue
@@ -67,20 +43,6 @@ returns-4 c = rw (← (c .before .before .before .before .next-range .ensures), 
 
 pub next-bytes-spec : {M : Type 1} → statement M
 next-bytes-spec =
-    tie.close
-    (tie.spec
-    next-range-requires
-    enum-known-start
-    sub-result
-    part-result-start
-    part-result-end
-    enum-told
-    slice-aggregate-result
-    enum-told-2
-    slice-aggregate-result-2
-    enum-known-refusal
-    slice-aggregate-result-3
-    returns
-    returns-2
-    returns-3
-    returns-4)
+    tie.close (tie.spec (λ c κs. search needs) (λ c. search needs) sub-result part-result-start part-result-end
+    (λ c. search needs) (λ c. search needs) (λ c. search needs) (λ c. search needs) (λ c. search needs)
+    (λ c. search needs) returns returns-2 returns-3 returns-4)

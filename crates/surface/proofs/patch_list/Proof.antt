@@ -4,21 +4,6 @@ use borrow.Author.Needs.{needs}
 use Rattle.surface.proofs.patch_list.Statement.{statement}
 use Rattle.surface.proofs.patch_list.Tie as tie
 
-surface-kind-requires : tie.Need-surface-kind-requires
-surface-kind-requires c κs = search needs
-
-enum-told : tie.Need-enum-told
-enum-told c = search needs
-
-enum-known-at : tie.Need-enum-known-at
-enum-known-at c = search needs
-
-list-of-collection-requires : tie.Need-list-of-collection-requires
-list-of-collection-requires c κs = search needs
-
-enum-known-at-2 : tie.Need-enum-known-at-2
-enum-known-at-2 c = search needs
-
 returns : tie.Need-returns
 unfolding listOf surfaceOf surfaceByKind listOfSurface listIn firstStart
 returns c = rw (← (c .before .before .surface-kind .ensures), (c .enum-told .given) .1)
@@ -33,13 +18,5 @@ returns-3 c = rw (← (c .before .before .before .surface-kind .ensures), (c .be
 
 pub patch-list-spec : {M : Type 1} → statement M
 patch-list-spec =
-    tie.close
-    (tie.spec
-    surface-kind-requires
-    enum-told
-    enum-known-at
-    list-of-collection-requires
-    enum-known-at-2
-    returns
-    returns-2
-    returns-3)
+    tie.close (tie.spec (λ c κs. search needs) (λ c. search needs) (λ c. search needs) (λ c κs. search needs)
+    (λ c. search needs) returns returns-2 returns-3)

@@ -6,24 +6,6 @@ use borrow.Author.Needs.{needs}
 use Rattle.surface.proofs.patch_range.Statement.{statement}
 use Rattle.surface.proofs.patch_range.Tie as tie
 
-surface-kind-requires : tie.Need-surface-kind-requires
-surface-kind-requires c κs = search needs
-
-enum-told : tie.Need-enum-told
-enum-told c = search needs
-
-enum-known-at : tie.Need-enum-known-at
-enum-known-at c = search needs
-
-range-of-collection-requires : tie.Need-range-of-collection-requires
-range-of-collection-requires c κs = search needs
-
-enum-known-at-2 : tie.Need-enum-known-at-2
-enum-known-at-2 c = search needs
-
-to-end-requires : tie.Need-to-end-requires
-to-end-requires c κs = search needs
-
 returns : tie.Need-returns
 unfolding patchOf surfaceOf surfaceByKind patchOfSurface patchValue
 returns c = rw (← (c .before .before .surface-kind .ensures), (c .enum-told .given) .1)
@@ -42,15 +24,5 @@ returns-4 c = rw (← (c .before .before .before .before .surface-kind .ensures)
 
 pub patch-range-spec : {M : Type 1} → statement M
 patch-range-spec =
-    tie.close
-    (tie.spec
-    surface-kind-requires
-    enum-told
-    enum-known-at
-    range-of-collection-requires
-    enum-known-at-2
-    to-end-requires
-    returns
-    returns-2
-    returns-3
-    returns-4)
+    tie.close (tie.spec (λ c κs. search needs) (λ c. search needs) (λ c. search needs) (λ c κs. search needs)
+    (λ c. search needs) (λ c κs. search needs) returns returns-2 returns-3 returns-4)

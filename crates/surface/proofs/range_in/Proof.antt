@@ -6,66 +6,12 @@ use borrow.Author.Needs.{needs}
 use Rattle.surface.proofs.range_in.Statement.{statement}
 use Rattle.surface.proofs.range_in.Tie as tie
 
-scan-patches-requires : tie.Need-scan-patches-requires
-scan-patches-requires c κs = search needs
-
-enum-known-k : tie.Need-enum-known-k
-enum-known-k c = search needs
-
-refuse-requires : tie.Need-refuse-requires
-refuse-requires c κs = search needs
-
-enum-known-end : tie.Need-enum-known-end
-enum-known-end c = search needs
-
 returns : tie.Need-returns
 returns c = (c .refuse .ensures) ∙ sym (past-refused (patchAt (c .before .before .before .before .before .before .before .args .s .now)) _ _ _ _ (c .before .before .before .before .before .if1 .taken) (sym (c .before .before .before .before .scan-patches .ensures) ∙ (c .before .before .k .given) .1))
 
 returns-2 : tie.Need-returns-2
 unfolding patchValue
 returns-2 c = sym (past-nothing (patchAt (c .before .before .before .before .before .before .args .s .now)) _ _ _ _ (c .before .before .before .before .if1 .taken) (sym (c .before .before .before .scan-patches .ensures) ∙ (c .before .end .given) .1))
-
-scan-patches-requires-2 : tie.Need-scan-patches-requires-2
-scan-patches-requires-2 c κs = search needs
-
-enum-known-k-2 : tie.Need-enum-known-k-2
-enum-known-k-2 c = search needs
-
-refuse-requires-2 : tie.Need-refuse-requires-2
-refuse-requires-2 c κs = search needs
-
-enum-known-start : tie.Need-enum-known-start
-enum-known-start c = search needs
-
-scan-patch-requires : tie.Need-scan-patch-requires
-scan-patch-requires c κs = search needs
-
-enum-known-k-3 : tie.Need-enum-known-k-3
-enum-known-k-3 c = search needs
-
-refuse-requires-3 : tie.Need-refuse-requires-3
-refuse-requires-3 c κs = search needs
-
-enum-known-end-2 : tie.Need-enum-known-end-2
-enum-known-end-2 c = search needs
-
-sub-scan-patches : tie.Need-sub-scan-patches
-sub-scan-patches c = search needs
-
-sub-scan-patches-2 : tie.Need-sub-scan-patches-2
-sub-scan-patches-2 c = search needs
-
-scan-patches-requires-3 : tie.Need-scan-patches-requires-3
-scan-patches-requires-3 c κs = search needs
-
-enum-known-k-4 : tie.Need-enum-known-k-4
-enum-known-k-4 c = search needs
-
-refuse-requires-4 : tie.Need-refuse-requires-4
-refuse-requires-4 c κs = search needs
-
-enum-known-last : tie.Need-enum-known-last
-enum-known-last c = search needs
 
 returns-3 : tie.Need-returns-3
 returns-3 c = (c .refuse2 .ensures) ∙ sym (before-refused (patchAt (c .before .before .before .before .before .before .before .args .s .now)) _ _ _ _ (c .before .before .before .before .before .if1 .left) (sym (c .before .before .before .before .scan-patches2 .ensures) ∙ (c .before .before .k2 .given) .1))
@@ -82,29 +28,8 @@ returns-6 c = sym (all-scanned (patchAt (c .before .before .before .before .befo
 
 pub range-in-spec : {M : Type 1} → statement M
 range-in-spec =
-    tie.close
-    (tie.spec
-    scan-patches-requires
-    enum-known-k
-    refuse-requires
-    enum-known-end
-    returns
-    returns-2
-    scan-patches-requires-2
-    enum-known-k-2
-    refuse-requires-2
-    enum-known-start
-    scan-patch-requires
-    enum-known-k-3
-    refuse-requires-3
-    enum-known-end-2
-    sub-scan-patches
-    sub-scan-patches-2
-    scan-patches-requires-3
-    enum-known-k-4
-    refuse-requires-4
-    enum-known-last
-    returns-3
-    returns-4
-    returns-5
-    returns-6)
+    tie.close (tie.spec (λ c κs. search needs) (λ c. search needs) (λ c κs. search needs) (λ c. search needs)
+    returns returns-2 (λ c κs. search needs) (λ c. search needs) (λ c κs. search needs) (λ c. search needs)
+    (λ c κs. search needs) (λ c. search needs) (λ c κs. search needs) (λ c. search needs) (λ c. search needs)
+    (λ c. search needs) (λ c κs. search needs) (λ c. search needs) (λ c κs. search needs) (λ c. search needs)
+    returns-3 returns-4 returns-5 returns-6)

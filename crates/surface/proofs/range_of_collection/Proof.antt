@@ -6,21 +6,6 @@ use borrow.Author.Needs.{needs}
 use Rattle.surface.proofs.range_of_collection.Statement.{statement}
 use Rattle.surface.proofs.range_of_collection.Tie as tie
 
-count-patches-requires : tie.Need-count-patches-requires
-count-patches-requires c κs = search needs
-
-enum-known-k : tie.Need-enum-known-k
-enum-known-k c = search needs
-
-refuse-requires : tie.Need-refuse-requires
-refuse-requires c κs = search needs
-
-enum-known-first : tie.Need-enum-known-first
-enum-known-first c = search needs
-
-range-in-requires : tie.Need-range-in-requires
-range-in-requires c κs = search needs
-
 returns : tie.Need-returns
 unfolding patchIn
 returns c = (c .refuse .ensures) ∙ sym (ap (patchIn (c .before .before .before .before .before .before .args .n)) (collection-refused _ _ _ (sym (c .before .before .before .before .count-patches .ensures) ∙ (c .before .before .k .given) .1)))
@@ -30,12 +15,5 @@ returns-2 c = (c .range-in .ensures) ∙ sym (ap (patchIn (c .before .before .be
 
 pub range-of-collection-spec : {M : Type 1} → statement M
 range-of-collection-spec =
-    tie.close
-    (tie.spec
-    count-patches-requires
-    enum-known-k
-    refuse-requires
-    enum-known-first
-    range-in-requires
-    returns
-    returns-2)
+    tie.close (tie.spec (λ c κs. search needs) (λ c. search needs) (λ c κs. search needs) (λ c. search needs)
+    (λ c κs. search needs) returns returns-2)

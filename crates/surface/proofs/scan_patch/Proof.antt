@@ -8,24 +8,6 @@ use borrow.Author.Needs.{needs}
 use Rattle.surface.proofs.scan_patch.Statement.{statement}
 use Rattle.surface.proofs.scan_patch.Tie as tie
 
-read-header-requires : tie.Need-read-header-requires
-read-header-requires c κs = search needs
-
-enum-known-k : tie.Need-enum-known-k
-enum-known-k c = search needs
-
-enum-known-h : tie.Need-enum-known-h
-enum-known-h c = search needs
-
-count-rings-requires : tie.Need-count-rings-requires
-count-rings-requires c κs = search needs
-
-enum-known-k-2 : tie.Need-enum-known-k-2
-enum-known-k-2 c = search needs
-
-enum-known-coords : tie.Need-enum-known-coords
-enum-known-coords c = search needs
-
 returns : tie.Need-returns
 unfolding patchAt patchFrom endOf
 returns c = rw (← (c .before .before .before .read-header .ensures), (c .before .k .given) .1)
@@ -40,14 +22,5 @@ returns-3 c = rw (← (c .before .before .before .before .before .before .before
 
 pub scan-patch-spec : {M : Type 1} → statement M
 scan-patch-spec =
-    tie.close
-    (tie.spec
-    read-header-requires
-    enum-known-k
-    enum-known-h
-    count-rings-requires
-    enum-known-k-2
-    enum-known-coords
-    returns
-    returns-2
-    returns-3)
+    tie.close (tie.spec (λ c κs. search needs) (λ c. search needs) (λ c. search needs) (λ c κs. search needs)
+    (λ c. search needs) (λ c. search needs) returns returns-2 returns-3)

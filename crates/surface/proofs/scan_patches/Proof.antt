@@ -16,26 +16,8 @@ Inv-loop s count at left₀ next₀ left next = endOf (times _∷_ [] (patchAt s
 abbrev μ-loop : tie.MeasureT-loop
 μ-loop s count at left₀ next₀ left next = left
 
-loop-holds : tie.Need-loop-holds Inv-loop μ-loop
-loop-holds c = refl
-
-scan-patch-requires : tie.Need-scan-patch-requires Inv-loop μ-loop
-scan-patch-requires c κs = search needs
-
-enum-known-k : tie.Need-enum-known-k Inv-loop μ-loop
-enum-known-k c = search needs
-
 returns : tie.Need-returns Inv-loop μ-loop
 returns c = sym ((c .before .before .before .before .before .loop .inv) ∙ turn-refused (patchAt (c .before .before .before .before .before .before .before .args .s .now)) _ _ _ (c .before .before .before .before .loop-test .taken) (sym (c .before .before .before .scan-patch .ensures) ∙ (c .before .k .given) .1))
-
-enum-known-end : tie.Need-enum-known-end Inv-loop μ-loop
-enum-known-end c = search needs
-
-sub-left : tie.Need-sub-left Inv-loop μ-loop
-sub-left c = omega arith
-
-loop-less : tie.Need-loop-less Inv-loop μ-loop
-loop-less c = omega arith
 
 loop-again : tie.Need-loop-again Inv-loop μ-loop
 loop-again c = (c .before .before .before .before .before .loop .inv) ∙ turn-ends (patchAt (c .before .before .before .before .before .before .before .args .s .now)) _ _ _ (c .before .before .before .before .loop-test .taken) (sym (c .before .before .before .scan-patch .ensures) ∙ (c .before .end .given) .1)
@@ -45,16 +27,5 @@ returns-2 c = sym ((c .before .loop .inv) ∙ turns-end (patchAt (c .before .bef
 
 pub scan-patches-spec : {M : Type 1} → statement M
 scan-patches-spec =
-    tie.close
-    (tie.spec
-    Inv-loop
-    μ-loop
-    loop-holds
-    scan-patch-requires
-    enum-known-k
-    returns
-    enum-known-end
-    sub-left
-    loop-less
-    loop-again
-    returns-2)
+    tie.close (tie.spec Inv-loop μ-loop (λ c. refl) (λ c κs. search needs) (λ c. search needs) returns
+    (λ c. search needs) (λ c. omega arith) (λ c. omega arith) loop-again returns-2)

@@ -7,18 +7,6 @@ use borrow.Author.Needs.{needs}
 use Rattle.surface.proofs.surface_kind.Statement.{statement}
 use Rattle.surface.proofs.surface_kind.Tie as tie
 
-read-header-requires : tie.Need-read-header-requires
-read-header-requires c κs = search needs
-
-enum-known-k : tie.Need-enum-known-k
-enum-known-k c = search needs
-
-enum-known-at : tie.Need-enum-known-at
-enum-known-at c = search needs
-
-type-kind-requires : tie.Need-type-kind-requires
-type-kind-requires c κs = search needs
-
 returns : tie.Need-returns
 unfolding surfaceKind kindByHeader
 returns c = rw (← (c .before .before .before .read-header .ensures), c .before .k .given .1)
@@ -41,14 +29,4 @@ returns-5 c = rw (← (c .before .before .before .before .before .before .before
 
 pub surface-kind-spec : {M : Type 1} → statement M
 surface-kind-spec =
-    tie.close
-    (tie.spec
-    read-header-requires
-    enum-known-k
-    enum-known-at
-    type-kind-requires
-    returns
-    returns-2
-    returns-3
-    returns-4
-    returns-5)
+    tie.close (tie.spec (λ c κs. search needs) (λ c. search needs) (λ c. search needs) (λ c κs. search needs) returns returns-2 returns-3 returns-4 returns-5)

@@ -4,39 +4,10 @@ use borrow.Author.Needs.{needs}
 use Rattle.viskorrel.proofs.viskorrel_3d_closest_point.Statement.{statement}
 use Rattle.viskorrel.proofs.viskorrel_3d_closest_point.Tie as tie
 
-st-3d-closest-point-requires : tie.Need-st-3d-closest-point-requires
-st-3d-closest-point-requires c κs = search needs
-
-reply-to-written-requires : tie.Need-reply-to-written-requires
-reply-to-written-requires c κs = search needs
-
-same-length : tie.Need-same-length
-same-length c = search needs
-
-same-length-2 : tie.Need-same-length-2
-same-length-2 c = search needs
-
-same-length-3 : tie.Need-same-length-3
-same-length-3 c = search needs
-
-same-length-4 : tie.Need-same-length-4
-same-length-4 c = search needs
-
-same-length-5 : tie.Need-same-length-5
-same-length-5 c = search needs
-
 returns : tie.Need-returns
 returns c = as-returned _ _ _ _ _ (c .before .before .before .before .before .before .before .before .before .before .before .st-3d-closest-point .ensures) (c .reply-to-written .ensures)
 
 pub viskorrel-3d-closest-point-spec : {M : Type 1} → statement M
 viskorrel-3d-closest-point-spec =
-    tie.close
-    (tie.spec
-    st-3d-closest-point-requires
-    reply-to-written-requires
-    same-length
-    same-length-2
-    same-length-3
-    same-length-4
-    same-length-5
-    returns)
+    tie.close (tie.spec (λ c κs. search needs) (λ c κs. search needs) (λ c. search needs) (λ c. search needs)
+    (λ c. search needs) (λ c. search needs) (λ c. search needs) returns)

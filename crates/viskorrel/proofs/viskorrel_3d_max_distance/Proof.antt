@@ -4,35 +4,10 @@ use borrow.Author.Needs.{needs}
 use Rattle.viskorrel.proofs.viskorrel_3d_max_distance.Statement.{statement}
 use Rattle.viskorrel.proofs.viskorrel_3d_max_distance.Tie as tie
 
-st-3d-max-distance-requires : tie.Need-st-3d-max-distance-requires
-st-3d-max-distance-requires c κs = search needs
-
-reply-to-answer-requires : tie.Need-reply-to-answer-requires
-reply-to-answer-requires c κs = search needs
-
-same-length : tie.Need-same-length
-same-length c = search needs
-
-same-length-2 : tie.Need-same-length-2
-same-length-2 c = search needs
-
-same-length-3 : tie.Need-same-length-3
-same-length-3 c = search needs
-
-same-length-4 : tie.Need-same-length-4
-same-length-4 c = search needs
-
 returns : tie.Need-returns
 returns c = as-returned _ _ _ _ _ (c .before .before .before .before .before .before .before .before .before .st-3d-max-distance .ensures) (c .reply-to-answer .ensures)
 
 pub viskorrel-3d-max-distance-spec : {M : Type 1} → statement M
 viskorrel-3d-max-distance-spec =
-    tie.close
-    (tie.spec
-    st-3d-max-distance-requires
-    reply-to-answer-requires
-    same-length
-    same-length-2
-    same-length-3
-    same-length-4
-    returns)
+    tie.close (tie.spec (λ c κs. search needs) (λ c κs. search needs) (λ c. search needs) (λ c. search needs)
+    (λ c. search needs) (λ c. search needs) returns)

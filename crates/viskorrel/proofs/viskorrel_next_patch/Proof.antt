@@ -6,15 +6,8 @@ use borrow.Author.Needs.{needs}
 use Rattle.viskorrel.proofs.viskorrel_next_patch.Statement.{statement}
 use Rattle.viskorrel.proofs.viskorrel_next_patch.Tie as tie
 
-next-of-cursor-requires : tie.Need-next-of-cursor-requires
-next-of-cursor-requires c κs = search needs
-
-reply-to-patch-requires : tie.Need-reply-to-patch-requires
-reply-to-patch-requires c κs = search needs
-
 returns : tie.Need-returns
 returns c = next-told _ _ _ _ (c .reply-to-patch .ensures ∙ ap patchReply (c .before .next-of-cursor .ensures))
 
 pub viskorrel-next-patch-spec : {M : Type 1} → statement M
-viskorrel-next-patch-spec =
-    tie.close (tie.spec next-of-cursor-requires reply-to-patch-requires returns)
+viskorrel-next-patch-spec = tie.close (tie.spec (λ c κs. search needs) (λ c κs. search needs) returns)

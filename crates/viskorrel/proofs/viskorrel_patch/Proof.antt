@@ -5,14 +5,8 @@ use borrow.Author.Needs.{needs}
 use Rattle.viskorrel.proofs.viskorrel_patch.Statement.{statement}
 use Rattle.viskorrel.proofs.viskorrel_patch.Tie as tie
 
-patch-range-requires : tie.Need-patch-range-requires
-patch-range-requires c κs = search needs
-
-reply-to-patch-requires : tie.Need-reply-to-patch-requires
-reply-to-patch-requires c κs = search needs
-
 returns : tie.Need-returns
 returns c = c .reply-to-patch .ensures ∙ ap patchReply (c .before .patch-range .ensures)
 
 pub viskorrel-patch-spec : {M : Type 1} → statement M
-viskorrel-patch-spec = tie.close (tie.spec patch-range-requires reply-to-patch-requires returns)
+viskorrel-patch-spec = tie.close (tie.spec (λ c κs. search needs) (λ c κs. search needs) returns)

@@ -5,27 +5,6 @@ use borrow.Author.Needs.{needs}
 use Rattle.viskorrel.proofs.viskorrel_patches.Statement.{statement}
 use Rattle.viskorrel.proofs.viskorrel_patches.Tie as tie
 
-patch-list-requires : tie.Need-patch-list-requires
-patch-list-requires c κs = search needs
-
-enum-known-first : tie.Need-enum-known-first
-enum-known-first c = search needs
-
-pair-requires : tie.Need-pair-requires
-pair-requires c κs = search needs
-
-enum-told : tie.Need-enum-told
-enum-told c = search needs
-
-pair-requires-2 : tie.Need-pair-requires-2
-pair-requires-2 c κs = search needs
-
-enum-known-refusal : tie.Need-enum-known-refusal
-enum-known-refusal c = search needs
-
-pair-refused-requires : tie.Need-pair-refused-requires
-pair-refused-requires c κs = search needs
-
 returns : tie.Need-returns
 unfolding patchesReply
 returns c = list-told _ _ (rw (c .pair .ensures, ← c .before .before .before .before .patch-list .ensures, c .before .before .first .given .1))
@@ -40,15 +19,5 @@ returns-3 c = list-told _ _ (rw (c .pair-refused .ensures, ← c .before .before
 
 pub viskorrel-patches-spec : {M : Type 1} → statement M
 viskorrel-patches-spec =
-    tie.close
-    (tie.spec
-    patch-list-requires
-    enum-known-first
-    pair-requires
-    enum-told
-    pair-requires-2
-    enum-known-refusal
-    pair-refused-requires
-    returns
-    returns-2
-    returns-3)
+    tie.close (tie.spec (λ c κs. search needs) (λ c. search needs) (λ c κs. search needs) (λ c. search needs)
+    (λ c κs. search needs) (λ c. search needs) (λ c κs. search needs) returns returns-2 returns-3)

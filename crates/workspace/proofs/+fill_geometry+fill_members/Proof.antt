@@ -11,7 +11,7 @@ use Rattle.workspace.specs.Inner.{Ready}
 use lib.ListN.{length}
 use borrow.Author.Needs.{needs}
 use native.Mathlib.Omega.{arith}
-use Prim.Native.Nat.{ℕ, _+_, _-_, _*_, _<_}
+use Prim.Native.Nat.{ℕ, _+_, _*_, _<_}
 use mathlib.Core.Path.{_≡_, refl, _∙_}
 use borrow.Fn.Kinds.{In}
 use borrow.Fn.PlainCycle.{Measures, is, falls, and}
@@ -41,11 +41,7 @@ fill-geometry-at t =
 
 abbrev fill-geometry-below : ℕ → In 3 fill-geometry-kinds.ps
 fill-geometry-below t =
-    and
-    3
-    fill-geometry-kinds.ps
-    (falls 3 fill-geometry-kinds.ps _<_ μ-fill-geometry t)
-    fill-geometry.Pre
+    and 3 fill-geometry-kinds.ps (falls 3 fill-geometry-kinds.ps _<_ μ-fill-geometry t) fill-geometry.Pre
 
 abbrev fill-members-at : ℕ → In 3 fill-members-kinds.ps
 fill-members-at t =
@@ -53,372 +49,65 @@ fill-members-at t =
 
 abbrev fill-members-below : ℕ → In 3 fill-members-kinds.ps
 fill-members-below t =
-    and
-    3
-    fill-members-kinds.ps
-    (falls 3 fill-members-kinds.ps _<_ μ-fill-members t)
-    fill-members.Pre
+    and 3 fill-members-kinds.ps (falls 3 fill-members-kinds.ps _<_ μ-fill-members t) fill-members.Pre
 
-fill-geometry-returns : (t : ℕ) → fill-geometry-lts.Need-returns (
-  read-header-reads.Asked,
-  read-header-reads.Learnt,
-  fill-point-reads.Asked,
-  fill-point-reads.Learnt,
-  fill-line-reads.Asked,
-  fill-line-reads.Learnt,
-  fill-rings-reads.Asked,
-  fill-rings-reads.Learnt,
-  fill-members-below t,
-  fill-members.Post,
-) (fill-geometry-at t) fill-geometry.Post
+-- what each function knows of those that it calls
+abbrev fill-geometry-calls : ℕ → fill-geometry-lts.Claims
+fill-geometry-calls t =
+    (read-header-reads.Asked, read-header-reads.Learnt, fill-point-reads.Asked, fill-point-reads.Learnt, fill-line-reads.Asked, fill-line-reads.Learnt, fill-rings-reads.Asked, fill-rings-reads.Learnt, fill-members-below t, fill-members.Post)
+
+abbrev fill-members-calls : ℕ → fill-members-lts.Claims
+fill-members-calls t = (u32-at-reads.Asked, u32-at-reads.Learnt, fill-geometry-below t, fill-geometry.Post)
+
+fill-geometry-returns : (t : ℕ) → fill-geometry-lts.Need-returns (fill-geometry-calls t) (fill-geometry-at t) fill-geometry.Post
 unfolding walkOf Ready mapParsed
 fill-geometry-returns t c = absurd (rw (c .if1 .taken) at ((c .before .before .before .before .pre) .1))
 
-fill-geometry-read-header-requires : (t : ℕ) → fill-geometry-lts.Need-read-header-requires (
-  read-header-reads.Asked,
-  read-header-reads.Learnt,
-  fill-point-reads.Asked,
-  fill-point-reads.Learnt,
-  fill-line-reads.Asked,
-  fill-line-reads.Learnt,
-  fill-rings-reads.Asked,
-  fill-rings-reads.Learnt,
-  fill-members-below t,
-  fill-members.Post,
-) (fill-geometry-at t) fill-geometry.Post
-fill-geometry-read-header-requires t c κs = search needs
-
-fill-geometry-enum-told : (t : ℕ) → fill-geometry-lts.Need-enum-told (
-  read-header-reads.Asked,
-  read-header-reads.Learnt,
-  fill-point-reads.Asked,
-  fill-point-reads.Learnt,
-  fill-line-reads.Asked,
-  fill-line-reads.Learnt,
-  fill-rings-reads.Asked,
-  fill-rings-reads.Learnt,
-  fill-members-below t,
-  fill-members.Post,
-) (fill-geometry-at t) fill-geometry.Post
-fill-geometry-enum-told t c = search needs
-
-fill-geometry-enum-known-h : (t : ℕ) → fill-geometry-lts.Need-enum-known-h (
-  read-header-reads.Asked,
-  read-header-reads.Learnt,
-  fill-point-reads.Asked,
-  fill-point-reads.Learnt,
-  fill-line-reads.Asked,
-  fill-line-reads.Learnt,
-  fill-rings-reads.Asked,
-  fill-rings-reads.Learnt,
-  fill-members-below t,
-  fill-members.Post,
-) (fill-geometry-at t) fill-geometry.Post
-fill-geometry-enum-known-h t c = search needs
-
-fill-geometry-fill-point-requires : (t : ℕ) → fill-geometry-lts.Need-fill-point-requires (
-  read-header-reads.Asked,
-  read-header-reads.Learnt,
-  fill-point-reads.Asked,
-  fill-point-reads.Learnt,
-  fill-line-reads.Asked,
-  fill-line-reads.Learnt,
-  fill-rings-reads.Asked,
-  fill-rings-reads.Learnt,
-  fill-members-below t,
-  fill-members.Post,
-) (fill-geometry-at t) fill-geometry.Post
+fill-geometry-fill-point-requires : (t : ℕ) → fill-geometry-lts.Need-fill-point-requires (fill-geometry-calls t) (fill-geometry-at t) fill-geometry.Post
 unfolding contentRunsAt
 fill-geometry-fill-point-requires t c κs = ready-moved _ (c .before .before .before .before .before .before .before .before .before .before .before .args .p) _ _ _ (rw (geometry-is (c .before .before .before .before .before .before .before .before .before .before .before .args .levels) (c .before .before .before .before .before .before .before .before .before .before .before .args .s .now) (c .before .before .before .before .before .before .before .before .before .before .before .args .p .next) ((c .before .before .before .before .h .given) .0 .0) pointClass _ (c .before .before .before .before .before .before .before .if1 .left) (c .before .before .before .before .before .before .read-header .ensures) ((c .before .before .before .before .h .given) .1) (class-point _ (c .before .before .match2 .keys1))) at ((c .before .before .before .before .before .before .before .before .before .before .before .pre) .1))
 
-fill-geometry-fill-line-requires : (t : ℕ) → fill-geometry-lts.Need-fill-line-requires (
-  read-header-reads.Asked,
-  read-header-reads.Learnt,
-  fill-point-reads.Asked,
-  fill-point-reads.Learnt,
-  fill-line-reads.Asked,
-  fill-line-reads.Learnt,
-  fill-rings-reads.Asked,
-  fill-rings-reads.Learnt,
-  fill-members-below t,
-  fill-members.Post,
-) (fill-geometry-at t) fill-geometry.Post
+fill-geometry-fill-line-requires : (t : ℕ) → fill-geometry-lts.Need-fill-line-requires (fill-geometry-calls t) (fill-geometry-at t) fill-geometry.Post
 unfolding contentRunsAt
 fill-geometry-fill-line-requires t c κs = ready-moved _ (c .before .before .before .before .before .before .before .before .before .before .before .args .p) _ _ _ (rw (geometry-is (c .before .before .before .before .before .before .before .before .before .before .before .args .levels) (c .before .before .before .before .before .before .before .before .before .before .before .args .s .now) (c .before .before .before .before .before .before .before .before .before .before .before .args .p .next) ((c .before .before .before .before .h .given) .0 .0) lineClass _ (c .before .before .before .before .before .before .before .if1 .left) (c .before .before .before .before .before .before .read-header .ensures) ((c .before .before .before .before .h .given) .1) (class-line _ (c .before .before .match2 .keys2))) at ((c .before .before .before .before .before .before .before .before .before .before .before .pre) .1))
 
-fill-geometry-fill-rings-requires : (t : ℕ) → fill-geometry-lts.Need-fill-rings-requires (
-  read-header-reads.Asked,
-  read-header-reads.Learnt,
-  fill-point-reads.Asked,
-  fill-point-reads.Learnt,
-  fill-line-reads.Asked,
-  fill-line-reads.Learnt,
-  fill-rings-reads.Asked,
-  fill-rings-reads.Learnt,
-  fill-members-below t,
-  fill-members.Post,
-) (fill-geometry-at t) fill-geometry.Post
+fill-geometry-fill-rings-requires : (t : ℕ) → fill-geometry-lts.Need-fill-rings-requires (fill-geometry-calls t) (fill-geometry-at t) fill-geometry.Post
 unfolding contentRunsAt
 fill-geometry-fill-rings-requires t c κs = ready-moved _ (c .before .before .before .before .before .before .before .before .before .before .before .args .p) _ _ _ (rw (geometry-is (c .before .before .before .before .before .before .before .before .before .before .before .args .levels) (c .before .before .before .before .before .before .before .before .before .before .before .args .s .now) (c .before .before .before .before .before .before .before .before .before .before .before .args .p .next) ((c .before .before .before .before .h .given) .0 .0) polygonClass _ (c .before .before .before .before .before .before .before .if1 .left) (c .before .before .before .before .before .before .read-header .ensures) ((c .before .before .before .before .h .given) .1) (class-polygon _ (c .before .before .match2 .keys3))) at ((c .before .before .before .before .before .before .before .before .before .before .before .pre) .1))
 
-fill-geometry-sub-fill-members : (t : ℕ) → fill-geometry-lts.Need-sub-fill-members (
-  read-header-reads.Asked,
-  read-header-reads.Learnt,
-  fill-point-reads.Asked,
-  fill-point-reads.Learnt,
-  fill-line-reads.Asked,
-  fill-line-reads.Learnt,
-  fill-rings-reads.Asked,
-  fill-rings-reads.Learnt,
-  fill-members-below t,
-  fill-members.Post,
-) (fill-geometry-at t) fill-geometry.Post
-fill-geometry-sub-fill-members t c = omega (arith, (c .before .before .before .before .before .before .before .if1 .left))
-
-fill-geometry-fill-members-requires : (t : ℕ) → fill-geometry-lts.Need-fill-members-requires (
-  read-header-reads.Asked,
-  read-header-reads.Learnt,
-  fill-point-reads.Asked,
-  fill-point-reads.Learnt,
-  fill-line-reads.Asked,
-  fill-line-reads.Learnt,
-  fill-rings-reads.Asked,
-  fill-rings-reads.Learnt,
-  fill-members-below t,
-  fill-members.Post,
-) (fill-geometry-at t) fill-geometry.Post
+fill-geometry-fill-members-requires : (t : ℕ) → fill-geometry-lts.Need-fill-members-requires (fill-geometry-calls t) (fill-geometry-at t) fill-geometry.Post
 unfolding contentRunsAt
 fill-geometry-fill-members-requires t c κs = (omega (arith, (c .before .before .before .before .before .before .before .before .before .before .before .before .before .pre) .0, (c .before .before .before .before .before .before .before .before .before .if1 .left)), ready-moved _ (c .before .before .before .before .before .before .before .before .before .before .before .before .before .args .p) _ _ _ (rw (geometry-is (c .before .before .before .before .before .before .before .before .before .before .before .before .before .args .levels) (c .before .before .before .before .before .before .before .before .before .before .before .before .before .args .s .now) (c .before .before .before .before .before .before .before .before .before .before .before .before .before .args .p .next) ((c .before .before .before .before .before .before .h .given) .0 .0) collectionClass _ (c .before .before .before .before .before .before .before .before .before .if1 .left) (c .before .before .before .before .before .before .before .before .read-header .ensures) ((c .before .before .before .before .before .before .h .given) .1) (class-collection _ ((c .before .before .before .before .match2 .rest) .0 .0 .1) ((c .before .before .before .before .match2 .rest) .0 .1) ((c .before .before .before .before .match2 .rest) .1) (c .before .before .before .if2 .left) (⊎-elim (λ w. inl (w .taken)) (λ w. inr (w .1 .left, w .2 .taken)) (c .before .before .if3 .came)))) at ((c .before .before .before .before .before .before .before .before .before .before .before .before .before .pre) .1)))
 
-fill-geometry-returns-2 : (t : ℕ) → fill-geometry-lts.Need-returns-2 (
-  read-header-reads.Asked,
-  read-header-reads.Learnt,
-  fill-point-reads.Asked,
-  fill-point-reads.Learnt,
-  fill-line-reads.Asked,
-  fill-line-reads.Learnt,
-  fill-rings-reads.Asked,
-  fill-rings-reads.Learnt,
-  fill-members-below t,
-  fill-members.Post,
-) (fill-geometry-at t) fill-geometry.Post
+fill-geometry-returns-2 : (t : ℕ) → fill-geometry-lts.Need-returns-2 (fill-geometry-calls t) (fill-geometry-at t) fill-geometry.Post
 unfolding Ready
 fill-geometry-returns-2 t c = absurd (rw (geometry-refused (c .before .before .before .before .before .before .before .args .levels) (c .before .before .before .before .before .before .before .args .s .now) (c .before .before .before .before .before .before .before .args .p .next) _ _ (c .before .before .before .if1 .left) (c .before .before .read-header .ensures) ((c .enum-told .given) .1)) at ((c .before .before .before .before .before .before .before .pre) .1))
 
-fill-geometry-same-length : (t : ℕ) → fill-geometry-lts.Need-same-length (
-  read-header-reads.Asked,
-  read-header-reads.Learnt,
-  fill-point-reads.Asked,
-  fill-point-reads.Learnt,
-  fill-line-reads.Asked,
-  fill-line-reads.Learnt,
-  fill-rings-reads.Asked,
-  fill-rings-reads.Learnt,
-  fill-members-below t,
-  fill-members.Post,
-) (fill-geometry-at t) fill-geometry.Post
-fill-geometry-same-length t c = (c .before .before .before .before .fill-point .kept) .1 .1 .1 .0
-
-fill-geometry-same-length-2 : (t : ℕ) → fill-geometry-lts.Need-same-length-2 (
-  read-header-reads.Asked,
-  read-header-reads.Learnt,
-  fill-point-reads.Asked,
-  fill-point-reads.Learnt,
-  fill-line-reads.Asked,
-  fill-line-reads.Learnt,
-  fill-rings-reads.Asked,
-  fill-rings-reads.Learnt,
-  fill-members-below t,
-  fill-members.Post,
-) (fill-geometry-at t) fill-geometry.Post
-fill-geometry-same-length-2 t c = (c .before .before .before .before .fill-point .kept) .1 .1 .1 .1 .0
-
-fill-geometry-returns-3 : (t : ℕ) → fill-geometry-lts.Need-returns-3 (
-  read-header-reads.Asked,
-  read-header-reads.Learnt,
-  fill-point-reads.Asked,
-  fill-point-reads.Learnt,
-  fill-line-reads.Asked,
-  fill-line-reads.Learnt,
-  fill-rings-reads.Asked,
-  fill-rings-reads.Learnt,
-  fill-members-below t,
-  fill-members.Post,
-) (fill-geometry-at t) fill-geometry.Post
+fill-geometry-returns-3 : (t : ℕ) → fill-geometry-lts.Need-returns-3 (fill-geometry-calls t) (fill-geometry-at t) fill-geometry.Post
 unfolding contentRunsAt
 fill-geometry-returns-3 t c = rw (geometry-is (c .before .before .before .before .before .before .before .before .before .before .before .before .before .before .before .before .args .levels) (c .before .before .before .before .before .before .before .before .before .before .before .before .before .before .before .before .args .s .now) (c .before .before .before .before .before .before .before .before .before .before .before .before .before .before .before .before .args .p .next) ((c .before .before .before .before .before .before .before .before .before .h .given) .0 .0) pointClass _ (c .before .before .before .before .before .before .before .before .before .before .before .before .if1 .left) (c .before .before .before .before .before .before .before .before .before .before .before .read-header .ensures) ((c .before .before .before .before .before .before .before .before .before .h .given) .1) (class-point _ (c .before .before .before .before .before .before .before .match2 .keys1))) (filled-moved _ (c .before .before .before .before .before .before .before .before .before .before .before .before .before .before .before .before .args .p) _ _ _ _ _ _ (c .before .before .before .before .fill-point .ensures))
 
-fill-geometry-same-length-3 : (t : ℕ) → fill-geometry-lts.Need-same-length-3 (
-  read-header-reads.Asked,
-  read-header-reads.Learnt,
-  fill-point-reads.Asked,
-  fill-point-reads.Learnt,
-  fill-line-reads.Asked,
-  fill-line-reads.Learnt,
-  fill-rings-reads.Asked,
-  fill-rings-reads.Learnt,
-  fill-members-below t,
-  fill-members.Post,
-) (fill-geometry-at t) fill-geometry.Post
-fill-geometry-same-length-3 t c = (c .before .before .before .before .fill-line .kept) .1 .1 .1 .0
-
-fill-geometry-same-length-4 : (t : ℕ) → fill-geometry-lts.Need-same-length-4 (
-  read-header-reads.Asked,
-  read-header-reads.Learnt,
-  fill-point-reads.Asked,
-  fill-point-reads.Learnt,
-  fill-line-reads.Asked,
-  fill-line-reads.Learnt,
-  fill-rings-reads.Asked,
-  fill-rings-reads.Learnt,
-  fill-members-below t,
-  fill-members.Post,
-) (fill-geometry-at t) fill-geometry.Post
-fill-geometry-same-length-4 t c = (c .before .before .before .before .fill-line .kept) .1 .1 .1 .1 .0
-
-fill-geometry-returns-4 : (t : ℕ) → fill-geometry-lts.Need-returns-4 (
-  read-header-reads.Asked,
-  read-header-reads.Learnt,
-  fill-point-reads.Asked,
-  fill-point-reads.Learnt,
-  fill-line-reads.Asked,
-  fill-line-reads.Learnt,
-  fill-rings-reads.Asked,
-  fill-rings-reads.Learnt,
-  fill-members-below t,
-  fill-members.Post,
-) (fill-geometry-at t) fill-geometry.Post
+fill-geometry-returns-4 : (t : ℕ) → fill-geometry-lts.Need-returns-4 (fill-geometry-calls t) (fill-geometry-at t) fill-geometry.Post
 unfolding contentRunsAt
 fill-geometry-returns-4 t c = rw (geometry-is (c .before .before .before .before .before .before .before .before .before .before .before .before .before .before .before .before .args .levels) (c .before .before .before .before .before .before .before .before .before .before .before .before .before .before .before .before .args .s .now) (c .before .before .before .before .before .before .before .before .before .before .before .before .before .before .before .before .args .p .next) ((c .before .before .before .before .before .before .before .before .before .h .given) .0 .0) lineClass _ (c .before .before .before .before .before .before .before .before .before .before .before .before .if1 .left) (c .before .before .before .before .before .before .before .before .before .before .before .read-header .ensures) ((c .before .before .before .before .before .before .before .before .before .h .given) .1) (class-line _ (c .before .before .before .before .before .before .before .match2 .keys2))) (filled-moved _ (c .before .before .before .before .before .before .before .before .before .before .before .before .before .before .before .before .args .p) _ _ _ _ _ _ (c .before .before .before .before .fill-line .ensures))
 
-fill-geometry-same-length-5 : (t : ℕ) → fill-geometry-lts.Need-same-length-5 (
-  read-header-reads.Asked,
-  read-header-reads.Learnt,
-  fill-point-reads.Asked,
-  fill-point-reads.Learnt,
-  fill-line-reads.Asked,
-  fill-line-reads.Learnt,
-  fill-rings-reads.Asked,
-  fill-rings-reads.Learnt,
-  fill-members-below t,
-  fill-members.Post,
-) (fill-geometry-at t) fill-geometry.Post
-fill-geometry-same-length-5 t c = (c .before .before .before .before .fill-rings .kept) .1 .1 .1 .0
-
-fill-geometry-same-length-6 : (t : ℕ) → fill-geometry-lts.Need-same-length-6 (
-  read-header-reads.Asked,
-  read-header-reads.Learnt,
-  fill-point-reads.Asked,
-  fill-point-reads.Learnt,
-  fill-line-reads.Asked,
-  fill-line-reads.Learnt,
-  fill-rings-reads.Asked,
-  fill-rings-reads.Learnt,
-  fill-members-below t,
-  fill-members.Post,
-) (fill-geometry-at t) fill-geometry.Post
-fill-geometry-same-length-6 t c = (c .before .before .before .before .fill-rings .kept) .1 .1 .1 .1 .0
-
-fill-geometry-returns-5 : (t : ℕ) → fill-geometry-lts.Need-returns-5 (
-  read-header-reads.Asked,
-  read-header-reads.Learnt,
-  fill-point-reads.Asked,
-  fill-point-reads.Learnt,
-  fill-line-reads.Asked,
-  fill-line-reads.Learnt,
-  fill-rings-reads.Asked,
-  fill-rings-reads.Learnt,
-  fill-members-below t,
-  fill-members.Post,
-) (fill-geometry-at t) fill-geometry.Post
+fill-geometry-returns-5 : (t : ℕ) → fill-geometry-lts.Need-returns-5 (fill-geometry-calls t) (fill-geometry-at t) fill-geometry.Post
 unfolding contentRunsAt
 fill-geometry-returns-5 t c = rw (geometry-is (c .before .before .before .before .before .before .before .before .before .before .before .before .before .before .before .before .args .levels) (c .before .before .before .before .before .before .before .before .before .before .before .before .before .before .before .before .args .s .now) (c .before .before .before .before .before .before .before .before .before .before .before .before .before .before .before .before .args .p .next) ((c .before .before .before .before .before .before .before .before .before .h .given) .0 .0) polygonClass _ (c .before .before .before .before .before .before .before .before .before .before .before .before .if1 .left) (c .before .before .before .before .before .before .before .before .before .before .before .read-header .ensures) ((c .before .before .before .before .before .before .before .before .before .h .given) .1) (class-polygon _ (c .before .before .before .before .before .before .before .match2 .keys3))) (filled-moved _ (c .before .before .before .before .before .before .before .before .before .before .before .before .before .before .before .before .args .p) _ _ _ _ _ _ (c .before .before .before .before .fill-rings .ensures))
 
-fill-geometry-same-length-7 : (t : ℕ) → fill-geometry-lts.Need-same-length-7 (
-  read-header-reads.Asked,
-  read-header-reads.Learnt,
-  fill-point-reads.Asked,
-  fill-point-reads.Learnt,
-  fill-line-reads.Asked,
-  fill-line-reads.Learnt,
-  fill-rings-reads.Asked,
-  fill-rings-reads.Learnt,
-  fill-members-below t,
-  fill-members.Post,
-) (fill-geometry-at t) fill-geometry.Post
-fill-geometry-same-length-7 t c = (c .before .before .before .before .fill-members .kept) .1 .1 .1 .1 .0
-
-fill-geometry-same-length-8 : (t : ℕ) → fill-geometry-lts.Need-same-length-8 (
-  read-header-reads.Asked,
-  read-header-reads.Learnt,
-  fill-point-reads.Asked,
-  fill-point-reads.Learnt,
-  fill-line-reads.Asked,
-  fill-line-reads.Learnt,
-  fill-rings-reads.Asked,
-  fill-rings-reads.Learnt,
-  fill-members-below t,
-  fill-members.Post,
-) (fill-geometry-at t) fill-geometry.Post
-fill-geometry-same-length-8 t c = (c .before .before .before .before .fill-members .kept) .1 .1 .1 .1 .1 .0
-
-fill-geometry-returns-6 : (t : ℕ) → fill-geometry-lts.Need-returns-6 (
-  read-header-reads.Asked,
-  read-header-reads.Learnt,
-  fill-point-reads.Asked,
-  fill-point-reads.Learnt,
-  fill-line-reads.Asked,
-  fill-line-reads.Learnt,
-  fill-rings-reads.Asked,
-  fill-rings-reads.Learnt,
-  fill-members-below t,
-  fill-members.Post,
-) (fill-geometry-at t) fill-geometry.Post
+fill-geometry-returns-6 : (t : ℕ) → fill-geometry-lts.Need-returns-6 (fill-geometry-calls t) (fill-geometry-at t) fill-geometry.Post
 unfolding contentRunsAt
 fill-geometry-returns-6 t c = rw (geometry-is (c .before .before .before .before .before .before .before .before .before .before .before .before .before .before .before .before .before .before .args .levels) (c .before .before .before .before .before .before .before .before .before .before .before .before .before .before .before .before .before .before .args .s .now) (c .before .before .before .before .before .before .before .before .before .before .before .before .before .before .before .before .before .before .args .p .next) ((c .before .before .before .before .before .before .before .before .before .before .before .h .given) .0 .0) collectionClass _ (c .before .before .before .before .before .before .before .before .before .before .before .before .before .before .if1 .left) (c .before .before .before .before .before .before .before .before .before .before .before .before .before .read-header .ensures) ((c .before .before .before .before .before .before .before .before .before .before .before .h .given) .1) (class-collection _ ((c .before .before .before .before .before .before .before .before .before .match2 .rest) .0 .0 .1) ((c .before .before .before .before .before .before .before .before .before .match2 .rest) .0 .1) ((c .before .before .before .before .before .before .before .before .before .match2 .rest) .1) (c .before .before .before .before .before .before .before .before .if2 .left) (⊎-elim (λ w. inl (w .taken)) (λ w. inr (w .1 .left, w .2 .taken)) (c .before .before .before .before .before .before .before .if3 .came)))) (filled-moved _ (c .before .before .before .before .before .before .before .before .before .before .before .before .before .before .before .before .before .before .args .p) _ _ _ _ _ _ (c .before .before .before .before .fill-members .ensures))
 
-fill-geometry-returns-7 : (t : ℕ) → fill-geometry-lts.Need-returns-7 (
-  read-header-reads.Asked,
-  read-header-reads.Learnt,
-  fill-point-reads.Asked,
-  fill-point-reads.Learnt,
-  fill-line-reads.Asked,
-  fill-line-reads.Learnt,
-  fill-rings-reads.Asked,
-  fill-rings-reads.Learnt,
-  fill-members-below t,
-  fill-members.Post,
-) (fill-geometry-at t) fill-geometry.Post
+fill-geometry-returns-7 : (t : ℕ) → fill-geometry-lts.Need-returns-7 (fill-geometry-calls t) (fill-geometry-at t) fill-geometry.Post
 unfolding contentRunsAt Ready
 fill-geometry-returns-7 t c = absurd (rw (geometry-is (c .before .before .before .before .before .before .before .before .before .before .args .levels) (c .before .before .before .before .before .before .before .before .before .before .args .s .now) (c .before .before .before .before .before .before .before .before .before .before .args .p .next) ((c .before .before .before .h .given) .0 .0) unknownClass _ (c .before .before .before .before .before .before .if1 .left) (c .before .before .before .before .before .read-header .ensures) ((c .before .before .before .h .given) .1) (class-none _ (c .if2 .taken))) at ((c .before .before .before .before .before .before .before .before .before .before .pre) .1))
 
-fill-geometry-returns-8 : (t : ℕ) → fill-geometry-lts.Need-returns-8 (
-  read-header-reads.Asked,
-  read-header-reads.Learnt,
-  fill-point-reads.Asked,
-  fill-point-reads.Learnt,
-  fill-line-reads.Asked,
-  fill-line-reads.Learnt,
-  fill-rings-reads.Asked,
-  fill-rings-reads.Learnt,
-  fill-members-below t,
-  fill-members.Post,
-) (fill-geometry-at t) fill-geometry.Post
+fill-geometry-returns-8 : (t : ℕ) → fill-geometry-lts.Need-returns-8 (fill-geometry-calls t) (fill-geometry-at t) fill-geometry.Post
 unfolding contentRunsAt Ready
 fill-geometry-returns-8 t c = absurd (rw (geometry-is (c .before .before .before .before .before .before .before .before .before .before .before .before .args .levels) (c .before .before .before .before .before .before .before .before .before .before .before .before .args .s .now) (c .before .before .before .before .before .before .before .before .before .before .before .before .args .p .next) ((c .before .before .before .before .before .h .given) .0 .0) unknownClass _ (c .before .before .before .before .before .before .before .before .if1 .left) (c .before .before .before .before .before .before .before .read-header .ensures) ((c .before .before .before .before .before .h .given) .1) (class-above _ (c .before .if3 .left) (omega arith) (omega arith) (omega arith))) at ((c .before .before .before .before .before .before .before .before .before .before .before .before .pre) .1))
 
-fill-geometry-returns-9 : (t : ℕ) → fill-geometry-lts.Need-returns-9 (
-  read-header-reads.Asked,
-  read-header-reads.Learnt,
-  fill-point-reads.Asked,
-  fill-point-reads.Learnt,
-  fill-line-reads.Asked,
-  fill-line-reads.Learnt,
-  fill-rings-reads.Asked,
-  fill-rings-reads.Learnt,
-  fill-members-below t,
-  fill-members.Post,
-) (fill-geometry-at t) fill-geometry.Post
+fill-geometry-returns-9 : (t : ℕ) → fill-geometry-lts.Need-returns-9 (fill-geometry-calls t) (fill-geometry-at t) fill-geometry.Post
 unfolding contentRunsAt Ready
 fill-geometry-returns-9 t c = absurd (rw (geometry-is (c .before .before .before .before .before .before .before .before .before .before .before .before .before .args .levels) (c .before .before .before .before .before .before .before .before .before .before .before .before .before .args .s .now) (c .before .before .before .before .before .before .before .before .before .before .before .before .before .args .p .next) ((c .before .before .before .before .before .before .h .given) .0 .0) unknownClass _ (c .before .before .before .before .before .before .before .before .before .if1 .left) (c .before .before .before .before .before .before .before .before .read-header .ensures) ((c .before .before .before .before .before .before .h .given) .1) (class-above _ (c .before .before .if3 .left) (omega arith) (omega arith) (λ e. (c .before .before .before .before .match2 .rest) .1 (inr e)))) at ((c .before .before .before .before .before .before .before .before .before .before .before .before .before .pre) .1))
 
@@ -429,140 +118,41 @@ fill-members-Inv-loop s little levels floats₀ table₀ at left₀ place₀ flo
 abbrev fill-members-μ-loop : fill-members-lts.MeasureT-loop
 fill-members-μ-loop s little levels floats₀ table₀ at left₀ place₀ floats table left progress = left
 
-fill-members-u32-at-requires : (t : ℕ) → fill-members-lts.Need-u32-at-requires (
-  u32-at-reads.Asked,
-  u32-at-reads.Learnt,
-  fill-geometry-below t,
-  fill-geometry.Post,
-) (fill-members-at t) fill-members.Post fill-members-Inv-loop fill-members-μ-loop
+fill-members-u32-at-requires : (t : ℕ) → fill-members-lts.Need-u32-at-requires (fill-members-calls t) (fill-members-at t) fill-members.Post fill-members-Inv-loop fill-members-μ-loop
 fill-members-u32-at-requires t c κs = members-inside (c .before .before .before .args .levels) (c .before .before .before .args .little) (c .before .before .before .args .s .now) (c .before .before .before .args .p .next) (c .before .before .before .args .p) (length (c .before .before .before .args .floats .now)) (length (c .before .before .before .args .table .now)) ((c .before .before .before .pre) .1)
 
-fill-members-add-t10 : (t : ℕ) → fill-members-lts.Need-add-t10 (
-  u32-at-reads.Asked,
-  u32-at-reads.Learnt,
-  fill-geometry-below t,
-  fill-geometry.Post,
-) (fill-members-at t) fill-members.Post fill-members-Inv-loop fill-members-μ-loop
+fill-members-add-t10 : (t : ℕ) → fill-members-lts.Need-add-t10 (fill-members-calls t) (fill-members-at t) fill-members.Post fill-members-Inv-loop fill-members-μ-loop
 fill-members-add-t10 t c = omega (arith, members-inside (c .before .before .before .before .args .levels) (c .before .before .before .before .args .little) (c .before .before .before .before .args .s .now) (c .before .before .before .before .args .p .next) (c .before .before .before .before .args .p) (length (c .before .before .before .before .args .floats .now)) (length (c .before .before .before .before .args .table .now)) ((c .before .before .before .before .pre) .1))
 
-fill-members-loop-holds : (t : ℕ) → fill-members-lts.Need-loop-holds (
-  u32-at-reads.Asked,
-  u32-at-reads.Learnt,
-  fill-geometry-below t,
-  fill-geometry.Post,
-) (fill-members-at t) fill-members.Post fill-members-Inv-loop fill-members-μ-loop
+fill-members-loop-holds : (t : ℕ) → fill-members-lts.Need-loop-holds (fill-members-calls t) (fill-members-at t) fill-members.Post fill-members-Inv-loop fill-members-μ-loop
 fill-members-loop-holds t c = (turn-none _ _ _ _ _ _ (rw (c .u32-at .ensures) (ready-moved _ (c .before .before .before .before .args .p) _ _ _ (rw (members-are (c .before .before .before .before .args .levels) (c .before .before .before .before .args .little) (c .before .before .before .before .args .s .now) (c .before .before .before .before .args .p .next) (c .before .before .before .before .args .p) (length (c .before .before .before .before .args .floats .now)) (length (c .before .before .before .before .args .table .now)) ((c .before .before .before .before .pre) .1)) at ((c .before .before .before .before .pre) .1)))), refl, refl)
 
-fill-members-fill-geometry-requires : (t : ℕ) → fill-members-lts.Need-fill-geometry-requires (
-  u32-at-reads.Asked,
-  u32-at-reads.Learnt,
-  fill-geometry-below t,
-  fill-geometry.Post,
-) (fill-members-at t) fill-members.Post fill-members-Inv-loop fill-members-μ-loop
+fill-members-fill-geometry-requires : (t : ℕ) → fill-members-lts.Need-fill-geometry-requires (fill-members-calls t) (fill-members-at t) fill-members.Post fill-members-Inv-loop fill-members-μ-loop
 fill-members-fill-geometry-requires t c κs = (omega (arith, (c .before .before .before .before .before .before .before .before .pre) .0), rw ((c .before .before .before .loop .inv) .1, (c .before .before .before .loop .inv) .2) (first-ready (walkRuns (c .before .before .before .before .before .before .before .before .args .levels) (c .before .before .before .before .before .before .before .before .args .s .now)) _ _ _ _ _ (c .before .before .loop-test .taken) ((c .before .before .before .loop .inv) .0 .ready)))
 
-fill-members-sub-left : (t : ℕ) → fill-members-lts.Need-sub-left (
-  u32-at-reads.Asked,
-  u32-at-reads.Learnt,
-  fill-geometry-below t,
-  fill-geometry.Post,
-) (fill-members-at t) fill-members.Post fill-members-Inv-loop fill-members-μ-loop
-fill-members-sub-left t c = omega arith
-
-fill-members-loop-less : (t : ℕ) → fill-members-lts.Need-loop-less (
-  u32-at-reads.Asked,
-  u32-at-reads.Learnt,
-  fill-geometry-below t,
-  fill-geometry.Post,
-) (fill-members-at t) fill-members.Post fill-members-Inv-loop fill-members-μ-loop
-fill-members-loop-less t c = omega arith
-
-fill-members-loop-again : (t : ℕ) → fill-members-lts.Need-loop-again (
-  u32-at-reads.Asked,
-  u32-at-reads.Learnt,
-  fill-geometry-below t,
-  fill-geometry.Post,
-) (fill-members-at t) fill-members.Post fill-members-Inv-loop fill-members-μ-loop
+fill-members-loop-again : (t : ℕ) → fill-members-lts.Need-loop-again (fill-members-calls t) (fill-members-at t) fill-members.Post fill-members-Inv-loop fill-members-μ-loop
 fill-members-loop-again t c = (next-turn (walkRuns (c .before .before .before .before .before .before .before .before .before .before .before .before .before .args .levels) (c .before .before .before .before .before .before .before .before .before .before .before .before .before .args .s .now)) _ _ _ _ _ _ _ _ _ _ _ _ _ (c .before .before .before .before .before .before .before .loop-test .taken) ((c .before .before .before .before .before .before .before .before .loop .inv) .0) (c .before .before .before .before .fill-geometry .ensures), (c .before .before .before .before .fill-geometry .kept) .1 .1 .1 .0 ∙ (c .before .before .before .before .before .before .before .before .loop .inv) .1, (c .before .before .before .before .fill-geometry .kept) .1 .1 .1 .1 .0 ∙ (c .before .before .before .before .before .before .before .before .loop .inv) .2)
 
-fill-members-same-length : (t : ℕ) → fill-members-lts.Need-same-length (
-  u32-at-reads.Asked,
-  u32-at-reads.Learnt,
-  fill-geometry-below t,
-  fill-geometry.Post,
-) (fill-members-at t) fill-members.Post fill-members-Inv-loop fill-members-μ-loop
-fill-members-same-length t c = (c .before .loop .inv) .1
-
-fill-members-same-length-2 : (t : ℕ) → fill-members-lts.Need-same-length-2 (
-  u32-at-reads.Asked,
-  u32-at-reads.Learnt,
-  fill-geometry-below t,
-  fill-geometry.Post,
-) (fill-members-at t) fill-members.Post fill-members-Inv-loop fill-members-μ-loop
-fill-members-same-length-2 t c = (c .before .loop .inv) .2
-
-fill-members-returns : (t : ℕ) → fill-members-lts.Need-returns (
-  u32-at-reads.Asked,
-  u32-at-reads.Learnt,
-  fill-geometry-below t,
-  fill-geometry.Post,
-) (fill-members-at t) fill-members.Post fill-members-Inv-loop fill-members-μ-loop
+fill-members-returns : (t : ℕ) → fill-members-lts.Need-returns (fill-members-calls t) (fill-members-at t) fill-members.Post fill-members-Inv-loop fill-members-μ-loop
 fill-members-returns t c = let z : (c .before .loop .left) ≡ 0 = omega arith in rw (members-are (c .before .before .before .before .before .before .args .levels) (c .before .before .before .before .before .before .args .little) (c .before .before .before .before .before .before .args .s .now) (c .before .before .before .before .before .before .args .p .next) (c .before .before .before .before .before .before .args .p) (length (c .before .before .before .before .before .before .args .floats .now)) (length (c .before .before .before .before .before .before .args .table .now)) ((c .before .before .before .before .before .before .pre) .1), ← (c .before .before .u32-at .ensures)) (filled-moved _ (c .before .before .before .before .before .before .args .p) _ _ _ _ _ _ (last-turn (walkRuns (c .before .before .before .before .before .before .args .levels) (c .before .before .before .before .before .before .args .s .now)) _ _ _ _ _ _ _ _ _ _ z ((c .before .loop .inv) .0)))
 
 pub +fill-geometry+fill-members-spec : {M : Type 1} → statement M
 +fill-geometry+fill-members-spec =
-    close μ-fill-geometry μ-fill-members (λ t. fill-geometry-lts.spec (
-      read-header-reads.Asked,
-      read-header-reads.Learnt,
-      fill-point-reads.Asked,
-      fill-point-reads.Learnt,
-      fill-line-reads.Asked,
-      fill-line-reads.Learnt,
-      fill-rings-reads.Asked,
-      fill-rings-reads.Learnt,
-      fill-members-below t,
-      fill-members.Post,
-    )
-    (fill-geometry-at t)
-    fill-geometry.Post
-    (fill-geometry-returns t)
-    (fill-geometry-read-header-requires t)
-    (fill-geometry-enum-told t)
-    (fill-geometry-enum-known-h t)
-    (fill-geometry-fill-point-requires t)
-    (fill-geometry-fill-line-requires t)
-    (fill-geometry-fill-rings-requires t)
-    (fill-geometry-sub-fill-members t)
-    (fill-geometry-fill-members-requires t)
-    (fill-geometry-returns-2 t)
-    (fill-geometry-same-length t)
-    (fill-geometry-same-length-2 t)
-    (fill-geometry-returns-3 t)
-    (fill-geometry-same-length-3 t)
-    (fill-geometry-same-length-4 t)
-    (fill-geometry-returns-4 t)
-    (fill-geometry-same-length-5 t)
-    (fill-geometry-same-length-6 t)
-    (fill-geometry-returns-5 t)
-    (fill-geometry-same-length-7 t)
-    (fill-geometry-same-length-8 t)
-    (fill-geometry-returns-6 t)
-    (fill-geometry-returns-7 t)
-    (fill-geometry-returns-8 t)
-    (fill-geometry-returns-9 t))
-    λ t. fill-members-lts.spec
-    (u32-at-reads.Asked, u32-at-reads.Learnt, fill-geometry-below t, fill-geometry.Post)
-    (fill-members-at t)
-    fill-members.Post
-    fill-members-Inv-loop
-    fill-members-μ-loop
-    (fill-members-u32-at-requires t)
-    (fill-members-add-t10 t)
-    (fill-members-loop-holds t)
-    (fill-members-fill-geometry-requires t)
-    (fill-members-sub-left t)
-    (fill-members-loop-less t)
-    (fill-members-loop-again t)
-    (fill-members-same-length t)
-    (fill-members-same-length-2 t)
-    (fill-members-returns t)
+    close μ-fill-geometry μ-fill-members (λ t. fill-geometry-lts.spec (fill-geometry-calls t) (fill-geometry-at t)
+    fill-geometry.Post (fill-geometry-returns t) (λ c κs. search needs) (λ c. search needs) (λ c. search needs)
+    (fill-geometry-fill-point-requires t) (fill-geometry-fill-line-requires t) (fill-geometry-fill-rings-requires t)
+    (λ c. omega (arith, (c .before .before .before .before .before .before .before .if1 .left)))
+    (fill-geometry-fill-members-requires t) (fill-geometry-returns-2 t)
+    (λ c. (c .before .before .before .before .fill-point .kept) .1 .1 .1 .0)
+    (λ c. (c .before .before .before .before .fill-point .kept) .1 .1 .1 .1 .0) (fill-geometry-returns-3 t)
+    (λ c. (c .before .before .before .before .fill-line .kept) .1 .1 .1 .0)
+    (λ c. (c .before .before .before .before .fill-line .kept) .1 .1 .1 .1 .0) (fill-geometry-returns-4 t)
+    (λ c. (c .before .before .before .before .fill-rings .kept) .1 .1 .1 .0)
+    (λ c. (c .before .before .before .before .fill-rings .kept) .1 .1 .1 .1 .0) (fill-geometry-returns-5 t)
+    (λ c. (c .before .before .before .before .fill-members .kept) .1 .1 .1 .1 .0)
+    (λ c. (c .before .before .before .before .fill-members .kept) .1 .1 .1 .1 .1 .0) (fill-geometry-returns-6 t)
+    (fill-geometry-returns-7 t) (fill-geometry-returns-8 t) (fill-geometry-returns-9 t)) λ t. fill-members-lts.spec
+    (fill-members-calls t) (fill-members-at t) fill-members.Post fill-members-Inv-loop fill-members-μ-loop
+    (fill-members-u32-at-requires t) (fill-members-add-t10 t) (fill-members-loop-holds t)
+    (fill-members-fill-geometry-requires t) (λ c. omega arith) (λ c. omega arith) (fill-members-loop-again t)
+    (λ c. (c .before .loop .inv) .1) (λ c. (c .before .loop .inv) .2) (fill-members-returns t)

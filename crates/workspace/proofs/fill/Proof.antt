@@ -10,16 +10,10 @@ fill-geometry-requires c κs =
     let args = c .before .before .before .before .before .args in
     room-is-ready (walkOf allLevels (args .s .now) (args .at)) (args .at) _ _ (c .before .before .before .before .before .pre)
 
-same-length : tie.Need-same-length
-same-length c = search needs
-
-same-length-2 : tie.Need-same-length-2
-same-length-2 c = search needs
-
 returns : tie.Need-returns
 returns c =
     let args = c .before .before .before .before .before .before .before .before .before .before .args in
     filled-is-written (walkOf allLevels (args .s .now) (args .at)) (args .at) _ _ _ _ _ (c .before .before .before .before .before .before .before .before .before .before .pre) (c .before .before .before .before .fill-geometry .ensures)
 
 pub fill-spec : {M : Type 1} → statement M
-fill-spec = tie.close (tie.spec fill-geometry-requires same-length same-length-2 returns)
+fill-spec = tie.close (tie.spec fill-geometry-requires (λ c. search needs) (λ c. search needs) returns)

@@ -6,7 +6,6 @@ use Rattle.coords.specs.Inner.{lineRuns}
 use mathlib.Core.List.{[], _++_}
 use lib.ListN.{length}
 use native.Mathlib.Omega.{arith}
-use Prim.Native.Nat.{_+_, _-_}
 use mathlib.Core.Path.{_≡_, refl, _∙_}
 use Rattle.workspace.proofs.fill_rings.Statement.{statement}
 use Rattle.workspace.proofs.fill_rings.Tie as tie
@@ -30,37 +29,13 @@ loop-holds c = (turn-none _ _ _ _ _ _ (rw (c .u32-at .ensures) (ready-moved _ (c
 fill-line-requires : tie.Need-fill-line-requires Inv-loop μ-loop
 fill-line-requires c κs = rw ((c .before .before .before .loop .inv) .1, (c .before .before .before .loop .inv) .2) (first-ready (lineRuns (c .before .before .before .before .before .before .before .before .args .h) (c .before .before .before .before .before .before .before .before .args .s .now)) _ _ _ _ _ (c .before .before .loop-test .taken) ((c .before .before .before .loop .inv) .0 .ready))
 
-sub-left : tie.Need-sub-left Inv-loop μ-loop
-sub-left c = omega arith
-
-loop-less : tie.Need-loop-less Inv-loop μ-loop
-loop-less c = omega arith
-
 loop-again : tie.Need-loop-again Inv-loop μ-loop
 loop-again c = (next-turn (lineRuns (c .before .before .before .before .before .before .before .before .before .before .before .before .before .args .h) (c .before .before .before .before .before .before .before .before .before .before .before .before .before .args .s .now)) _ _ _ _ _ _ _ _ _ _ _ _ _ (c .before .before .before .before .before .before .before .loop-test .taken) ((c .before .before .before .before .before .before .before .before .loop .inv) .0) (c .before .before .before .before .fill-line .ensures), (c .before .before .before .before .fill-line .kept) .1 .1 .1 .0 ∙ (c .before .before .before .before .before .before .before .before .loop .inv) .1, (c .before .before .before .before .fill-line .kept) .1 .1 .1 .1 .0 ∙ (c .before .before .before .before .before .before .before .before .loop .inv) .2)
-
-same-length : tie.Need-same-length Inv-loop μ-loop
-same-length c = (c .before .loop .inv) .1
-
-same-length-2 : tie.Need-same-length-2 Inv-loop μ-loop
-same-length-2 c = (c .before .loop .inv) .2
 
 returns : tie.Need-returns Inv-loop μ-loop
 returns c = let z : (c .before .loop .left) ≡ 0 = omega arith in rw (rings-are (c .before .before .before .before .before .before .args .h) (c .before .before .before .before .before .before .args .s .now) (c .before .before .before .before .before .before .args .p .next) (c .before .before .before .before .before .before .args .p) (length (c .before .before .before .before .before .before .args .floats .now)) (length (c .before .before .before .before .before .before .args .table .now)) (c .before .before .before .before .before .before .pre), ← (c .before .before .u32-at .ensures)) (filled-moved _ (c .before .before .before .before .before .before .args .p) _ _ _ _ _ _ (last-turn (lineRuns (c .before .before .before .before .before .before .args .h) (c .before .before .before .before .before .before .args .s .now)) _ _ _ _ _ _ _ _ _ _ z ((c .before .loop .inv) .0)))
 
 pub fill-rings-spec : {M : Type 1} → statement M
 fill-rings-spec =
-    tie.close
-    (tie.spec
-    Inv-loop
-    μ-loop
-    u32-at-requires
-    add-t9
-    loop-holds
-    fill-line-requires
-    sub-left
-    loop-less
-    loop-again
-    same-length
-    same-length-2
-    returns)
+    tie.close (tie.spec Inv-loop μ-loop u32-at-requires add-t9 loop-holds fill-line-requires (λ c. omega arith)
+    (λ c. omega arith) loop-again (λ c. (c .before .loop .inv) .1) (λ c. (c .before .loop .inv) .2) returns)

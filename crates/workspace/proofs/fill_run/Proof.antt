@@ -4,15 +4,11 @@ use Rattle.coords.proofs.Laws.{product-fits}
 use lib.ListN.{length, length-set}
 use borrow.Author.Needs.{needs}
 use native.Mathlib.Omega.{arith}
-use Prim.Native.Nat.{_-_}
 use Rattle.workspace.proofs.fill_run.Statement.{statement}
 use Rattle.workspace.proofs.fill_run.Tie as tie
 
 returns : tie.Need-returns
 returns c = filled-none (c .before .before .before .before .args .h) (c .before .before .before .before .args .s .now) (c .before .before .before .before .args .n) (c .before .before .before .before .args .p .next) (c .before .before .before .before .args .p) (c .before .before .before .before .args .floats .now) (c .before .before .before .before .args .table .now) (c .if1 .taken) (c .before .before .before .before .pre)
-
-stride-of-requires : tie.Need-stride-of-requires
-stride-of-requires c κs = search needs
 
 mul-total : tie.Need-mul-total
 mul-total c = rw (c .stride-of .ensures) (omega (arith, product-fits (c .before .before .before .before .before .args .h .z) (c .before .before .before .before .before .args .h .m) (c .before .before .before .before .before .args .n) (omega arith)))
@@ -47,32 +43,11 @@ add-t19 c = let r = run-room (c .before .before .before .before .before .before 
 add-t21 : tie.Need-add-t21
 add-t21 c = rw (c .before .before .before .before .stride-of .ensures) (omega (arith, run-inside (c .before .before .before .before .before .before .before .before .before .args .h) (c .before .before .before .before .before .before .before .before .before .args .s .now) (c .before .before .before .before .before .before .before .before .before .args .n) (c .before .before .before .before .before .before .before .before .before .args .p .next) (c .before .before .before .before .before .before .before .before .before .args .p) (length (c .before .before .before .before .before .before .before .before .before .args .floats .now)) (length (c .before .before .before .before .before .before .before .before .before .args .table .now)) (c .before .before .before .before .before .before .before .before .before .pre)))
 
-same-length : tie.Need-same-length
-same-length c = search needs
-
-same-length-2 : tie.Need-same-length-2
-same-length-2 c = search needs
-
 returns-2 : tie.Need-returns-2
 returns-2 c = rw ((c .before .before .put-coordinates .ensures), (c .before .before .before .before .stride-of .ensures)) (filled-one (c .before .before .before .before .before .before .before .before .before .args .h) (c .before .before .before .before .before .before .before .before .before .args .s .now) (c .before .before .before .before .before .before .before .before .before .args .n) (c .before .before .before .before .before .before .before .before .before .args .p .next) (c .before .before .before .before .before .before .before .before .before .args .p) (c .before .before .before .before .before .before .before .before .before .args .floats .now) (c .before .before .before .before .before .before .before .before .before .args .table .now) (c .before .before .before .before .before .if1 .left) (c .before .before .before .before .before .before .before .before .before .pre))
 
 pub fill-run-spec : {M : Type 1} → statement M
 fill-run-spec =
-    tie.close
-    (tie.spec
-    returns
-    stride-of-requires
-    mul-total
-    put-coordinates-requires
-    mul-k
-    mul-table
-    slice-write-table
-    add-table
-    mul-table-2
-    slice-write-table-2
-    add-t14
-    add-t19
-    add-t21
-    same-length
-    same-length-2
-    returns-2)
+    tie.close (tie.spec returns (λ c κs. search needs) mul-total put-coordinates-requires mul-k mul-table
+    slice-write-table add-table mul-table-2 slice-write-table-2 add-t14 add-t19 add-t21 (λ c. search needs)
+    (λ c. search needs) returns-2)

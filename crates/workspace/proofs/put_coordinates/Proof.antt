@@ -6,7 +6,7 @@ use lib.Seq.{sets}
 use lib.ListN.{length}
 use borrow.Author.Needs.{needs}
 use native.Mathlib.Omega.{arith}
-use Prim.Native.Nat.{_+_, _-_, _*_, _≤_}
+use Prim.Native.Nat.{_+_, _*_, _≤_}
 use mathlib.Core.Path.{_≡_, refl, sym, _∙_}
 use Rattle.workspace.proofs.put_coordinates.Statement.{statement}
 use Rattle.workspace.proofs.put_coordinates.Tie as tie
@@ -18,9 +18,6 @@ Inv-loop s h n at floats₀ i stride left₀ pos₀ j₀ floats left pos j =
 abbrev μ-loop : tie.MeasureT-loop
 μ-loop s h n at floats₀ i stride left₀ pos₀ j₀ floats left pos j = left
 
-stride-of-requires : tie.Need-stride-of-requires Inv-loop μ-loop
-stride-of-requires c κs = search needs
-
 loop-holds : tie.Need-loop-holds Inv-loop μ-loop
 loop-holds c = (refl, rw (c .stride-of .ensures) ((c .before .before .before .pre) .0), omega arith, refl)
 
@@ -30,21 +27,9 @@ put-coordinate-requires c κs = let e = one-more (c .before .before .loop .left)
 add-pos : tie.Need-add-pos Inv-loop μ-loop
 add-pos c = let e = one-more (c .before .before .before .before .before .loop .left) (c .before .before .before .before .before .before .stride-of .result) (c .before .before .before .before .loop-test .taken) in omega arith
 
-add-j : tie.Need-add-j Inv-loop μ-loop
-add-j c = omega arith
-
-sub-left : tie.Need-sub-left Inv-loop μ-loop
-sub-left c = omega arith
-
-loop-less : tie.Need-loop-less Inv-loop μ-loop
-loop-less c = omega arith
-
 loop-again : tie.Need-loop-again Inv-loop μ-loop
 loop-again c = let e = one-more (c .before .before .before .before .before .loop .left) (c .before .before .before .before .before .before .stride-of .result) (c .before .before .before .before .loop-test .taken) in
     (rw ((c .before .before .put-coordinate .ensures), (c .before .before .before .before .before .before .stride-of .ensures)) ((c .before .before .before .before .before .loop .inv) .0 ∙ coordinates-turn _ _ _ _ _ _ (c .before .before .before .before .loop-test .taken)), omega arith, omega arith, (c .before .before .put-coordinate .kept) .1 .1 .1 .0 ∙ (c .before .before .before .before .before .loop .inv) .3)
-
-same-length : tie.Need-same-length Inv-loop μ-loop
-same-length c = (c .before .loop .inv) .3
 
 returns : tie.Need-returns Inv-loop μ-loop
 unfolding coordinatesFrom coordinatesFloats
@@ -52,17 +37,5 @@ returns c = let z : (c .before .loop .left) ≡ 0 = omega arith in sym ((c .befo
 
 pub put-coordinates-spec : {M : Type 1} → statement M
 put-coordinates-spec =
-    tie.close
-    (tie.spec
-    Inv-loop
-    μ-loop
-    stride-of-requires
-    loop-holds
-    put-coordinate-requires
-    add-pos
-    add-j
-    sub-left
-    loop-less
-    loop-again
-    same-length
-    returns)
+    tie.close (tie.spec Inv-loop μ-loop (λ c κs. search needs) loop-holds put-coordinate-requires add-pos
+    (λ c. omega arith) (λ c. omega arith) (λ c. omega arith) loop-again (λ c. (c .before .loop .inv) .3) returns)
