@@ -1,6 +1,23 @@
 // What the 3D measures between two blobs answer: document 01's operations as definitions (specs/Operations), for every
-// input, and laws of them.
+// input, and laws of them; and the steps that the operations share, whichever pair they sweep for. An operation reads
+// both blobs (read_both), sweeps for a pair, and answers by that pair (the functions over Swept).
+use extremes::ExtremePair;
+use operands::Checked;
+use primitives::Witness;
 use refusals::Refusal;
+use workspace::NUMBERS_PER_RUN;
+ghost use mathlib.Core.Path.{_≡_};
+ghost use lib.ListN.{length};
+ghost use Rattle.refusals.specs.Checks.{firstOf};
+ghost use Rattle.gpb.specs.Written.{pointBytes, lineBytes};
+ghost use Rattle.operands.specs.Operands.{operandChecks};
+ghost use Rattle.operands.specs.Inner.{checkedBy};
+ghost use Rattle.outcomes.specs.Lent.{lent, left};
+ghost use Rattle.outcomes.specs.Answers.{answerReport, decisionReport, writtenReport};
+ghost use Rattle.outcomes.specs.Operations.{distanceValue, withinValue, touchingValue};
+ghost use Rattle.outcomes.specs.Operations.{lineAfter, pointAfter};
+ghost use Rattle.outcomes.specs.Inner.{askedChecks, outputChecked, firstAsked, ReadBoth};
+ghost use Rattle.outcomes.specs.Inner.{sweptOf, sweptReport, SweptWritten, Fits};
 
 // A number (may be NaN), none, or a refusal.
 pub enum Answer {
@@ -21,4 +38,193 @@ pub enum Written {
     Blob,
     Nothing,
     Refused(Refusal),
+}
+
+// What an operation asks for, and so what it refuses besides the operands: a tolerance below 0, or an output that is
+// too short.
+pub enum Asked {
+    Distance,
+    Within(f64),
+    Bytes { lent: usize, needed: usize },
+}
+
+// Both blobs in lent memory: how many numbers of each table were written, and the SRID of side 1. Or a refusal.
+pub enum BothRead {
+    Stored {
+        numbers1: usize,
+        numbers2: usize,
+        srid: u32,
+    },
+    Refused(Refusal),
+}
+
+// The pair that a sweep over both blobs found, with the SRID of side 1; none; or a refusal.
+pub enum Swept {
+    Found { witness: Witness, srid: u32 },
+    Nothing,
+    Refused(Refusal),
+}
+
+// 16 comes last.
+fn check_output(checked: Checked, lent: usize, needed: usize) -> Checked
+    ensures { λ r. ⌜ r ≡ outputChecked checked lent needed ⌝ }
+{
+    match checked {
+        Checked::Refused(refusal) => Checked::Refused(refusal),
+        Checked::Accepted(o) => if lent < needed {
+            Checked::Refused(Refusal {
+                number: 16,
+                side: 0,
+            })
+        } else {
+            Checked::Accepted(o)
+        },
+    }
+}
+
+// Every check of an operation; floats1 and so on are the lengths lent.
+fn check(
+    a: &[u8],
+    b: &[u8],
+    asked: Asked,
+    floats1: usize,
+    numbers1: usize,
+    floats2: usize,
+    numbers2: usize,
+) -> Checked
+    ensures { λ r. ⌜ r ≡ checkedBy (firstOf (askedChecks asked
+        (operandChecks (now (a .entry)) (now (b .entry)) floats1 numbers1 floats2 numbers2)))
+        (now (a .entry)) (now (b .entry)) ⌝ }
+{
+    match asked {
+        Asked::Distance => operands::check(a, b, floats1, numbers1, floats2, numbers2),
+        Asked::Within(d) => if d < 0.0 {
+            Checked::Refused(Refusal { number: 1, side: 0 })
+        } else {
+            operands::check(a, b, floats1, numbers1, floats2, numbers2)
+        },
+        Asked::Bytes { lent, needed } => {
+            let checked = operands::check(a, b, floats1, numbers1, floats2, numbers2);
+            check_output(checked, lent, needed)
+        }
+    }
+}
+
+// Both blobs checked, and read into lent memory.
+pub fn read_both(
+    a: &[u8],
+    b: &[u8],
+    asked: Asked,
+    floats1: &mut [f64],
+    table1: &mut [u32],
+    floats2: &mut [f64],
+    table2: &mut [u32],
+) -> BothRead
+    ensures { λ r. ⌜ ReadBoth (firstAsked asked (now (a .entry)) (now (b .entry)) (lent floats1 table1 floats2 table2))
+        (now (a .entry)) (now (b .entry)) (lent floats1 table1 floats2 table2) (left floats1 table1 floats2 table2) r ⌝ }
+{
+    match check(
+        a,
+        b,
+        asked,
+        floats1.len(),
+        table1.len(),
+        floats2.len(),
+        table2.len(),
+    ) {
+        Checked::Refused(refusal) => BothRead::Refused(refusal),
+        Checked::Accepted(o) => {
+            let first = o.first;
+            let second = o.second;
+            let numbers1 = NUMBERS_PER_RUN * first.runs;
+            let numbers2 = NUMBERS_PER_RUN * second.runs;
+            operands::fill(a, b, o, floats1, table1, floats2, table2);
+            BothRead::Stored {
+                numbers1,
+                numbers2,
+                srid: o.srid,
+            }
+        }
+    }
+}
+
+// What a sweep found, with the SRID of side 1.
+pub fn with_srid(found: ExtremePair, srid: u32) -> Swept
+    ensures { λ r. ⌜ r ≡ sweptOf found srid ⌝ }
+{
+    match found {
+        ExtremePair::Nothing => Swept::Nothing,
+        ExtremePair::Found(witness) => Swept::Found { witness, srid },
+    }
+}
+
+// The distance of the pair, or none.
+pub fn measured(pair: Swept) -> Answer
+    ensures { λ r. ⌜ answerReport r ≡ sweptReport distanceValue pair ⌝ }
+{
+    match pair {
+        Swept::Refused(refusal) => Answer::Refused(refusal),
+        Swept::Nothing => Answer::Nothing,
+        Swept::Found { witness, srid: _ } => Answer::Measured(witness.d),
+    }
+}
+
+// Whether the distance of the pair is at most d; no where there is none.
+pub fn within(pair: Swept, d: f64) -> Decision
+    ensures { λ r. ⌜ decisionReport r ≡ sweptReport (withinValue d) pair ⌝ }
+{
+    match pair {
+        Swept::Refused(refusal) => Decision::Refused(refusal),
+        Swept::Nothing => Decision::No,
+        Swept::Found { witness, srid: _ } => if witness.d <= d {
+            Decision::Yes
+        } else {
+            Decision::No
+        },
+    }
+}
+
+// Whether the distance of the pair is 0; no where there is none.
+pub fn touching(pair: Swept) -> Decision
+    ensures { λ r. ⌜ decisionReport r ≡ sweptReport touchingValue pair ⌝ }
+{
+    match pair {
+        Swept::Refused(refusal) => Decision::Refused(refusal),
+        Swept::Nothing => Decision::No,
+        Swept::Found { witness, srid: _ } => if witness.d == 0.0 {
+            Decision::Yes
+        } else {
+            Decision::No
+        },
+    }
+}
+
+// The line of the pair, from side 1's point to side 2's.
+pub fn write_line(pair: Swept, output: &mut [u8]) -> Written
+    requires { ⌜ Fits lineBytes (length (now output)) pair ⌝ }
+    ensures { λ r. ⌜ SweptWritten lineAfter pair (now (output .entry)) (now (output .exit)) (writtenReport r) ⌝ }
+{
+    match pair {
+        Swept::Refused(refusal) => Written::Refused(refusal),
+        Swept::Nothing => Written::Nothing,
+        Swept::Found { witness: w, srid } => {
+            gpb::write_line(output, srid, w.ax, w.ay, w.az, w.bx, w.by, w.bz);
+            Written::Blob
+        }
+    }
+}
+
+// Side 1's point of the pair.
+pub fn write_point(pair: Swept, output: &mut [u8]) -> Written
+    requires { ⌜ Fits pointBytes (length (now output)) pair ⌝ }
+    ensures { λ r. ⌜ SweptWritten pointAfter pair (now (output .entry)) (now (output .exit)) (writtenReport r) ⌝ }
+{
+    match pair {
+        Swept::Refused(refusal) => Written::Refused(refusal),
+        Swept::Nothing => Written::Nothing,
+        Swept::Found { witness: w, srid } => {
+            gpb::write_point(output, srid, w.ax, w.ay, w.az);
+            Written::Blob
+        }
+    }
 }
