@@ -6,27 +6,6 @@ use borrow.Author.Needs.{needs}
 use Rattle.outcomes.proofs.check.Statement.{statement}
 use Rattle.outcomes.proofs.check.Tie as tie
 
-enum-told : tie.Need-enum-told
-enum-told c = search needs
-
-check-requires : tie.Need-check-requires
-check-requires c κs = search needs
-
-enum-known-asked : tie.Need-enum-known-asked
-enum-known-asked c = search needs
-
-check-requires-2 : tie.Need-check-requires-2
-check-requires-2 c κs = search needs
-
-enum-known-asked-2 : tie.Need-enum-known-asked-2
-enum-known-asked-2 c = search needs
-
-check-requires-3 : tie.Need-check-requires-3
-check-requires-3 c κs = search needs
-
-check-output-requires : tie.Need-check-output-requires
-check-output-requires c κs = search needs
-
 returns : tie.Need-returns
 unfolding checkedOf askedChecks
 returns c = rw (c .before .enum-told .given .1) (c .check .ensures)
@@ -46,13 +25,13 @@ pub check-spec : {M : Type 1} → statement M
 check-spec =
     tie.close
     (tie.spec
-    enum-told
-    check-requires
-    enum-known-asked
-    check-requires-2
-    enum-known-asked-2
-    check-requires-3
-    check-output-requires
+    (λ c. search needs)
+    (λ c κs. search needs)
+    (λ c. search needs)
+    (λ c κs. search needs)
+    (λ c. search needs)
+    (λ c κs. search needs)
+    (λ c κs. search needs)
     returns
     returns-2
     returns-3

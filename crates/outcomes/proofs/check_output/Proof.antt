@@ -5,12 +5,6 @@ use borrow.Author.Needs.{needs}
 use Rattle.outcomes.proofs.check_output.Statement.{statement}
 use Rattle.outcomes.proofs.check_output.Tie as tie
 
-enum-known-checked : tie.Need-enum-known-checked
-enum-known-checked c = search needs
-
-enum-known-checked-2 : tie.Need-enum-known-checked-2
-enum-known-checked-2 c = search needs
-
 returns : tie.Need-returns
 unfolding outputChecked
 returns c = rw (c .before .checked .given .1)
@@ -25,4 +19,10 @@ returns-3 c = rw (c .before .before .checked2 .given .1, le-ltb _ _ (c .if1 .lef
 
 pub check-output-spec : {M : Type 1} → statement M
 check-output-spec =
-    tie.close (tie.spec enum-known-checked enum-known-checked-2 returns returns-2 returns-3)
+    tie.close
+    (tie.spec
+    (λ c. search needs)
+    (λ c. search needs)
+    returns
+    returns-2
+    returns-3)

@@ -6,15 +6,6 @@ use borrow.Author.Needs.{needs}
 use Rattle.outcomes.proofs.measured.Statement.{statement}
 use Rattle.outcomes.proofs.measured.Tie as tie
 
-enum-known-pair : tie.Need-enum-known-pair
-enum-known-pair c = search needs
-
-enum-told : tie.Need-enum-told
-enum-told c = search needs
-
-enum-known-pair-2 : tie.Need-enum-known-pair-2
-enum-known-pair-2 c = search needs
-
 returns : tie.Need-returns
 unfolding answerReport sweptReport distanceValue
 returns c = rw (c .before .pair .given .1)
@@ -29,4 +20,11 @@ returns-3 c = rw (c .before .pair2 .given .1)
 
 pub measured-spec : {M : Type 1} → statement M
 measured-spec =
-    tie.close (tie.spec enum-known-pair enum-told enum-known-pair-2 returns returns-2 returns-3)
+    tie.close
+    (tie.spec
+    (λ c. search needs)
+    (λ c. search needs)
+    (λ c. search needs)
+    returns
+    returns-2
+    returns-3)

@@ -6,15 +6,6 @@ use borrow.Author.Needs.{needs}
 use Rattle.outcomes.proofs.read_both.Statement.{statement}
 use Rattle.outcomes.proofs.read_both.Tie as tie
 
-check-requires : tie.Need-check-requires
-check-requires c κs = search needs
-
-enum-known-refusal : tie.Need-enum-known-refusal
-enum-known-refusal c = search needs
-
-enum-known-o : tie.Need-enum-known-o
-enum-known-o c = search needs
-
 mul-numbers1 : tie.Need-mul-numbers1
 mul-numbers1 c =
     let e = c .before .before .before .before .before .before .before .before .before .before .before .before .before in
@@ -45,18 +36,6 @@ returns c =
     let w = workspaces (e .args .floats1 .now) (e .args .table1 .now) (e .args .floats2 .now) (e .args .table2 .now) in
     read-refused (e .args .asked) (e .args .a .now) (e .args .b .now) w _ _ (c .before .refusal .given .1) (c .before .before .before .check .ensures)
 
-same-length : tie.Need-same-length
-same-length c = search needs
-
-same-length-2 : tie.Need-same-length-2
-same-length-2 c = search needs
-
-same-length-3 : tie.Need-same-length-3
-same-length-3 c = search needs
-
-same-length-4 : tie.Need-same-length-4
-same-length-4 c = search needs
-
 returns-2 : tie.Need-returns-2
 returns-2 c =
     let e = c .before .before .before .before .before .before .before .before .before .before .before .before .before .before .before .before .before .before .before .before .before .before .before .before .before .before .before in
@@ -69,15 +48,15 @@ pub read-both-spec : {M : Type 1} → statement M
 read-both-spec =
     tie.close
     (tie.spec
-    check-requires
-    enum-known-refusal
-    enum-known-o
+    (λ c κs. search needs)
+    (λ c. search needs)
+    (λ c. search needs)
     mul-numbers1
     mul-numbers2
     fill-requires
     returns
-    same-length
-    same-length-2
-    same-length-3
-    same-length-4
+    (λ c. search needs)
+    (λ c. search needs)
+    (λ c. search needs)
+    (λ c. search needs)
     returns-2)

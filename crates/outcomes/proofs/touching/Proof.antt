@@ -7,15 +7,6 @@ use borrow.Author.Needs.{needs}
 use Rattle.outcomes.proofs.touching.Statement.{statement}
 use Rattle.outcomes.proofs.touching.Tie as tie
 
-enum-known-pair : tie.Need-enum-known-pair
-enum-known-pair c = search needs
-
-enum-told : tie.Need-enum-told
-enum-told c = search needs
-
-enum-known-pair-2 : tie.Need-enum-known-pair-2
-enum-known-pair-2 c = search needs
-
 returns : tie.Need-returns
 unfolding decisionReport sweptReport touchingValue
 returns c = rw (c .before .pair .given .1)
@@ -35,4 +26,11 @@ returns-4 c = rw (c .before .before .before .pair2 .given .1, c .if1 .left)
 pub touching-spec : {M : Type 1} → statement M
 touching-spec =
     tie.close
-    (tie.spec enum-known-pair enum-told enum-known-pair-2 returns returns-2 returns-3 returns-4)
+    (tie.spec
+    (λ c. search needs)
+    (λ c. search needs)
+    (λ c. search needs)
+    returns
+    returns-2
+    returns-3
+    returns-4)

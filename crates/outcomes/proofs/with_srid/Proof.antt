@@ -4,12 +4,6 @@ use borrow.Author.Needs.{needs}
 use Rattle.outcomes.proofs.with_srid.Statement.{statement}
 use Rattle.outcomes.proofs.with_srid.Tie as tie
 
-enum-told : tie.Need-enum-told
-enum-told c = search needs
-
-enum-known-found : tie.Need-enum-known-found
-enum-known-found c = search needs
-
 returns : tie.Need-returns
 unfolding sweptOf
 returns c = rw (c .enum-told .given .1)
@@ -19,4 +13,10 @@ unfolding sweptOf
 returns-2 c = rw (c .before .found .given .1)
 
 pub with-srid-spec : {M : Type 1} → statement M
-with-srid-spec = tie.close (tie.spec enum-told enum-known-found returns returns-2)
+with-srid-spec =
+    tie.close
+    (tie.spec
+    (λ c. search needs)
+    (λ c. search needs)
+    returns
+    returns-2)

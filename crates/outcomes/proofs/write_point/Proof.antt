@@ -6,15 +6,6 @@ use borrow.Author.Needs.{needs}
 use Rattle.outcomes.proofs.write_point.Statement.{statement}
 use Rattle.outcomes.proofs.write_point.Tie as tie
 
-enum-known-pair : tie.Need-enum-known-pair
-enum-known-pair c = search needs
-
-enum-told : tie.Need-enum-told
-enum-told c = search needs
-
-enum-known-pair-2 : tie.Need-enum-known-pair-2
-enum-known-pair-2 c = search needs
-
 write-point-requires : tie.Need-write-point-requires
 unfolding Fits
 write-point-requires c κs = rw (c .before .before .pair2 .given .1) at (c .before .before .before .before .before .pre)
@@ -27,9 +18,6 @@ returns-2 : tie.Need-returns-2
 unfolding writtenReport blobValue pointAfter sweptReport sweptOutput
 returns-2 c = let e = c .enum-told .given .1 in record { told = rw e; left = rw e }
 
-same-length : tie.Need-same-length
-same-length c = search needs
-
 returns-3 : tie.Need-returns-3
 unfolding writtenReport blobValue pointAfter sweptReport sweptOutput
 returns-3 c = let e = c .before .before .before .before .before .pair2 .given .1 in record { told = rw e; left = rw e (c .before .before .write-point .ensures) }
@@ -38,11 +26,11 @@ pub write-point-spec : {M : Type 1} → statement M
 write-point-spec =
     tie.close
     (tie.spec
-    enum-known-pair
-    enum-told
-    enum-known-pair-2
+    (λ c. search needs)
+    (λ c. search needs)
+    (λ c. search needs)
     write-point-requires
     returns
     returns-2
-    same-length
+    (λ c. search needs)
     returns-3)

@@ -6,24 +6,6 @@ use borrow.Author.Needs.{needs}
 use Rattle.threed_closest.proofs.st_3d_intersects.Statement.{statement}
 use Rattle.threed_closest.proofs.st_3d_intersects.Tie as tie
 
-closest-pair-requires : tie.Need-closest-pair-requires
-closest-pair-requires c κs = search needs
-
-touching-requires : tie.Need-touching-requires
-touching-requires c κs = search needs
-
-same-length : tie.Need-same-length
-same-length c = search needs
-
-same-length-2 : tie.Need-same-length-2
-same-length-2 c = search needs
-
-same-length-3 : tie.Need-same-length-3
-same-length-3 c = search needs
-
-same-length-4 : tie.Need-same-length-4
-same-length-4 c = search needs
-
 returns : tie.Need-returns
 unfolding intersects askedChecks
 returns c = told (c .before .before .before .before .before .before .before .before .before .closest-pair .ensures) touchingValue (c .touching .ensures)
@@ -32,10 +14,10 @@ pub st-3d-intersects-spec : {M : Type 1} → statement M
 st-3d-intersects-spec =
     tie.close
     (tie.spec
-    closest-pair-requires
-    touching-requires
-    same-length
-    same-length-2
-    same-length-3
-    same-length-4
+    (λ c κs. search needs)
+    (λ c κs. search needs)
+    (λ c. search needs)
+    (λ c. search needs)
+    (λ c. search needs)
+    (λ c. search needs)
     returns)

@@ -9,26 +9,8 @@ use borrow.Author.Needs.{needs}
 use Rattle.threed_closest.proofs.st_3d_shortest_line.Statement.{statement}
 use Rattle.threed_closest.proofs.st_3d_shortest_line.Tie as tie
 
-closest-pair-requires : tie.Need-closest-pair-requires
-closest-pair-requires c κs = search needs
-
 write-line-requires : tie.Need-write-line-requires
 write-line-requires c κs = room _ _ _ _ _ _ (c .before .before .before .before .before .before .before .before .before .closest-pair .ensures .answer)
-
-same-length : tie.Need-same-length
-same-length c = search needs
-
-same-length-2 : tie.Need-same-length-2
-same-length-2 c = search needs
-
-same-length-3 : tie.Need-same-length-3
-same-length-3 c = search needs
-
-same-length-4 : tie.Need-same-length-4
-same-length-4 c = search needs
-
-same-length-5 : tie.Need-same-length-5
-same-length-5 c = search needs
 
 returns : tie.Need-returns
 unfolding shortestLine lineChecks outputChecks askedChecks lineAfter
@@ -42,11 +24,11 @@ pub st-3d-shortest-line-spec : {M : Type 1} → statement M
 st-3d-shortest-line-spec =
     tie.close
     (tie.spec
-    closest-pair-requires
+    (λ c κs. search needs)
     write-line-requires
-    same-length
-    same-length-2
-    same-length-3
-    same-length-4
-    same-length-5
+    (λ c. search needs)
+    (λ c. search needs)
+    (λ c. search needs)
+    (λ c. search needs)
+    (λ c. search needs)
     returns)

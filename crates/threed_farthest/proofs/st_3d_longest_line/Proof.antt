@@ -9,26 +9,8 @@ use borrow.Author.Needs.{needs}
 use Rattle.threed_farthest.proofs.st_3d_longest_line.Statement.{statement}
 use Rattle.threed_farthest.proofs.st_3d_longest_line.Tie as tie
 
-farthest-pair-requires : tie.Need-farthest-pair-requires
-farthest-pair-requires c κs = search needs
-
 write-line-requires : tie.Need-write-line-requires
 write-line-requires c κs = room _ _ _ _ _ _ (c .before .before .before .before .before .before .before .before .before .farthest-pair .ensures .answer)
-
-same-length : tie.Need-same-length
-same-length c = search needs
-
-same-length-2 : tie.Need-same-length-2
-same-length-2 c = search needs
-
-same-length-3 : tie.Need-same-length-3
-same-length-3 c = search needs
-
-same-length-4 : tie.Need-same-length-4
-same-length-4 c = search needs
-
-same-length-5 : tie.Need-same-length-5
-same-length-5 c = search needs
 
 returns : tie.Need-returns
 unfolding longestLine lineChecks outputChecks askedChecks lineAfter
@@ -42,11 +24,11 @@ pub st-3d-longest-line-spec : {M : Type 1} → statement M
 st-3d-longest-line-spec =
     tie.close
     (tie.spec
-    farthest-pair-requires
+    (λ c κs. search needs)
     write-line-requires
-    same-length
-    same-length-2
-    same-length-3
-    same-length-4
-    same-length-5
+    (λ c. search needs)
+    (λ c. search needs)
+    (λ c. search needs)
+    (λ c. search needs)
+    (λ c. search needs)
     returns)

@@ -6,24 +6,6 @@ use borrow.Author.Needs.{needs}
 use Rattle.threed_farthest.proofs.st_3d_max_distance.Statement.{statement}
 use Rattle.threed_farthest.proofs.st_3d_max_distance.Tie as tie
 
-farthest-pair-requires : tie.Need-farthest-pair-requires
-farthest-pair-requires c κs = search needs
-
-measured-requires : tie.Need-measured-requires
-measured-requires c κs = search needs
-
-same-length : tie.Need-same-length
-same-length c = search needs
-
-same-length-2 : tie.Need-same-length-2
-same-length-2 c = search needs
-
-same-length-3 : tie.Need-same-length-3
-same-length-3 c = search needs
-
-same-length-4 : tie.Need-same-length-4
-same-length-4 c = search needs
-
 returns : tie.Need-returns
 unfolding maxDistance askedChecks
 returns c = told (c .before .before .before .before .before .before .before .before .before .farthest-pair .ensures) distanceValue (c .measured .ensures)
@@ -32,10 +14,10 @@ pub st-3d-max-distance-spec : {M : Type 1} → statement M
 st-3d-max-distance-spec =
     tie.close
     (tie.spec
-    farthest-pair-requires
-    measured-requires
-    same-length
-    same-length-2
-    same-length-3
-    same-length-4
+    (λ c κs. search needs)
+    (λ c κs. search needs)
+    (λ c. search needs)
+    (λ c. search needs)
+    (λ c. search needs)
+    (λ c. search needs)
     returns)
