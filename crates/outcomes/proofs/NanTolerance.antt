@@ -10,8 +10,9 @@ use Rattle.primitives.specs.declared.Witness.{Witness}
 use Rattle.operands.specs.Operands.{Workspaces, lentChecks}
 use Rattle.outcomes.specs.Answers.{decided, answering}
 use Rattle.outcomes.specs.Operations.{unless, farthestPair, closestPair, withinValue, fullyWithin, within}
-use Rattle.outcomes.specs.Inner.{askedChecks}
-use Rattle.outcomes.proofs.Steps.{from-zero}
+use Rattle.outcomes.specs.Inner.{askedChecks, belowZero, tooShort}
+use Rattle.outcomes.specs.declared.Asked.the-variants as asked
+use Rattle.outcomes.proofs.Steps.{first-none}
 
 no-le-nan : (x : Float) → le x nan ≡ false
 unfolding le
@@ -26,9 +27,9 @@ nan-decides (some x) = rw (no-le-nan (x .d))
 
 module _ (a b : List ℕ) (w : Workspaces) (free : firstOf (lentChecks a b w) ≡ none) where
   pub nan-not-fully-within : fullyWithin a b nan w .report ≡ answering (decided false)
-  unfolding fullyWithin unless lt askedChecks
-  nan-not-fully-within = rw (from-zero nan (lentChecks a b w) refl, free) (nan-decides (farthestPair a b))
+  unfolding fullyWithin unless lt askedChecks belowZero tooShort
+  nan-not-fully-within = rw (first-none (asked.Within nan) (lentChecks a b w) refl free refl) (nan-decides (farthestPair a b))
 
   pub nan-not-within : within a b nan w .report ≡ answering (decided false)
-  unfolding within unless lt askedChecks
-  nan-not-within = rw (from-zero nan (lentChecks a b w) refl, free) (nan-decides (closestPair a b))
+  unfolding within unless lt askedChecks belowZero tooShort
+  nan-not-within = rw (first-none (asked.Within nan) (lentChecks a b w) refl free refl) (nan-decides (closestPair a b))

@@ -7,12 +7,11 @@ use Prim.Native.Nat.{ℕ, _*_, _≤_}
 use native.Mathlib.Omega.{arith}
 use lib.Dec.{ltb}
 use lib.ListN.{length}
-use lib.Ieee.{Float, binary64, ofBits, lt}
+use lib.Ieee.{lt}
 use borrow.Author.Tests.{ltb-false}
 use Rattle.ieee754.specs.MinMax.{positiveZero}
 use Rattle.refusals.specs.Checks.{Check, check, firstOf}
 use Rattle.refusals.specs.declared.Refusal.{Refusal}
-use Rattle.refusals.proofs.Checks.{first-append, first-keeps}
 use Rattle.refusals.proofs.Sides.{first-of-two, first-of-one, none-of-both}
 use Rattle.gpb.specs.Header.{sridOf}
 use Rattle.primitives.specs.declared.Witness.{Witness}
@@ -21,14 +20,14 @@ use Rattle.extremes.specs.declared.ExtremePair.{ExtremePair}
 use Rattle.workspace.specs.Workspace.{numbersPerRun, numbersNeeded}
 use Rattle.blob.specs.Blob.{runsOfBlob}
 use Rattle.operands.specs.Operands.{Workspaces, lentChecks, filled}
-use Rattle.operands.specs.Inner.{operandsOf, checkedBy, Ready}
+use Rattle.operands.specs.Inner.{operandsOf, checkedOf}
 use Rattle.operands.specs.declared.Operands.{Operands}
 use Rattle.operands.specs.declared.Checked.{Checked}
 use Rattle.operands.specs.declared.Checked.the-variants as checked
-use Rattle.operands.proofs.Meaning.{none-is-ready}
+use Rattle.operands.proofs.Meaning.{refused-is-first, AreAccepted, are-accepted}
 use Rattle.outcomes.specs.Answers.{Value, Report, answering}
 use Rattle.outcomes.specs.Operations.{outcome, noSide, toleranceChecks, unless, blobValue}
-use Rattle.outcomes.specs.Inner.{askedChecks, firstAsked, outputChecked, memoryBy, storedBy, ReadBoth, sweptOf, sweptBy, PairSwept, sweptReport, sweptOutput, SweptWritten, Fits}
+use Rattle.outcomes.specs.Inner.{askedChecks, belowZero, tooShort, memoryBy, storedBy, ReadBoth, sweptOf, sweptBy, PairSwept, sweptReport, sweptOutput, SweptWritten, Fits}
 use Rattle.outcomes.specs.declared.Asked.{Asked}
 use Rattle.outcomes.specs.declared.Asked.the-variants as asked
 use Rattle.outcomes.specs.declared.BothRead.{BothRead}
@@ -39,77 +38,61 @@ use Rattle.outcomes.proofs.Handed.{Side, side}
 
 -- ---- the checks
 
--- the code's 0.0
-abbrev zero : Float
-zero = ofBits binary64 0
+or-none : (x : Option Refusal) → x ≡ orElse x none
+unfolding orElse
+or-none none = refl
+or-none (some r) = refl
 
-pub first-tolerance : (d : Float) → firstOf (toleranceChecks d) ≡ cond (lt d zero) (some (noSide 1)) none
-unfolding toleranceChecks ofBits
-first-tolerance d = first-of-one (noSide 1) (lt d positiveZero)
+-- 1, then the operands', then 16
+asked-first : (q : Asked) (cs : List (Check Refusal)) → firstOf (askedChecks q cs) ≡ orElse (cond (belowZero q) (some (noSide 1)) none) (orElse (firstOf cs) (cond (tooShort q) (some (noSide 16)) none))
+unfolding askedChecks belowZero tooShort toleranceChecks orElse
+asked-first asked.Distance cs = or-none (firstOf cs)
+asked-first (asked.Within d) cs = first-of-two (toleranceChecks d) cs ∙ rw (first-of-one (noSide 1) (lt d positiveZero), ← or-none (firstOf cs))
+asked-first (asked.Bytes lent needed) cs = first-of-two cs (check (noSide 16) (ltb lent needed) ∷ []) ∙ rw (first-of-one (noSide 16) (ltb lent needed))
 
-pub from-zero : (d : Float) (cs : List (Check Refusal)) → lt d zero ≡ false → firstOf (askedChecks (asked.Within d) cs) ≡ firstOf cs
-unfolding askedChecks
-from-zero d cs e = first-append (toleranceChecks d) cs (first-tolerance d ∙ rw e)
+module _ (q : Asked) (cs : List (Check Refusal)) where
+  pub first-below : belowZero q ≡ true → firstOf (askedChecks q cs) ≡ some (noSide 1)
+  unfolding orElse
+  first-below e = rw (asked-first q cs, e)
 
-module _ (a b : List ℕ) (cs : List (Check Refusal)) where
-  -- 1 refuses first
-  pub below-zero : (d : Float) → lt d zero ≡ true → checked.Refused (noSide 1) ≡ checkedBy (firstOf (askedChecks (asked.Within d) cs)) a b
-  unfolding askedChecks checkedBy
-  below-zero d e = rw (first-keeps (toleranceChecks d) cs (noSide 1) (first-tolerance d ∙ rw e))
+  module _ (from-zero : belowZero q ≡ false) where
+    pub first-operands : (r : Refusal) → firstOf cs ≡ some r → firstOf (askedChecks q cs) ≡ some r
+    unfolding orElse
+    first-operands r e = rw (asked-first q cs, from-zero, e)
 
-  -- 16 refuses last
-  pub output-last : (lent needed : ℕ) → outputChecked (checkedBy (firstOf cs) a b) lent needed ≡ checkedBy (firstOf (askedChecks (asked.Bytes lent needed) cs)) a b
-  unfolding askedChecks outputChecked checkedBy orElse
-  output-last lent needed = rw (first-of-two cs (check (noSide 16) (ltb lent needed) ∷ []), first-of-one (noSide 16) (ltb lent needed)) (go (firstOf cs))
-    where
-      last : (short : Bool) → cond short (checked.Refused (noSide 16)) (checked.Accepted (operandsOf a b)) ≡ checkedBy (cond short (some (noSide 16)) none) a b
-      last true = refl
-      last false = refl
+    pub first-short : firstOf cs ≡ none → tooShort q ≡ true → firstOf (askedChecks q cs) ≡ some (noSide 16)
+    unfolding orElse
+    first-short e f = rw (asked-first q cs, from-zero, e, f)
 
-      go : (x : Option Refusal) → outputChecked (checkedBy x a b) lent needed ≡ checkedBy (orElse x (cond (ltb lent needed) (some (noSide 16)) none)) a b
-      go (some r) = refl
-      go none = last (ltb lent needed)
+    pub first-none : firstOf cs ≡ none → tooShort q ≡ false → firstOf (askedChecks q cs) ≡ none
+    unfolding orElse
+    first-none e f = rw (asked-first q cs, from-zero, e, f)
 
 -- ---- both blobs read
 
--- no check of an operation holds: none of its operands' does
-operands-free : (q : Asked) (cs : List (Check Refusal)) → firstOf (askedChecks q cs) ≡ none → firstOf cs ≡ none
-unfolding askedChecks
-operands-free asked.Distance cs e = e
-operands-free (asked.Within d) cs e = none-of-both (firstOf (toleranceChecks d)) (firstOf cs) (sym (first-of-two (toleranceChecks d) cs) ∙ e) .1
-operands-free (asked.Bytes lent needed) cs e = none-of-both (firstOf cs) _ (sym (first-of-two cs (check (noSide 16) (ltb lent needed) ∷ [])) ∙ e) .0
-
--- nothing is refused: the operands are the blobs', and they can be read
-pub record Taken (first : Option Refusal) (a b : List ℕ) (w : Workspaces) (o : Operands) : Type 0 where
-  pub free : first ≡ none
-  pub own : o ≡ operandsOf a b
-  pub ready : Ready a b (length (w .floats1)) (length (w .table1)) (length (w .floats2)) (length (w .table2))
+-- the operands are accepted, and so many numbers fit
+pub record Taken (a b : List ℕ) (w : Workspaces) (o : Operands) : Type 0 where
+  pub of : AreAccepted a b (length (w .floats1)) (length (w .table1)) (length (w .floats2)) (length (w .table2)) o
   pub fits1 : numbersPerRun * o .first .runs ≤ length (w .table1)
   pub fits2 : numbersPerRun * o .second .runs ≤ length (w .table2)
 
-module _ (q : Asked) (a b : List ℕ) (w : Workspaces) where
-  pub taken : (o : Operands) (r : Checked) → r ≡ checked.Accepted o → r ≡ checkedBy (firstAsked q a b w) a b → Taken (firstAsked q a b w) a b w o
-  unfolding checkedBy
-  taken o r e f = go (firstAsked q a b w) refl f
-    where
-      go : (x : Option Refusal) → firstAsked q a b w ≡ x → r ≡ checkedBy x a b → Taken (firstAsked q a b w) a b w o
-      go (some r) g f = let z : _≡_ {A = ℕ} 0 1 = cc in absurd (omega arith)
-      go none g f =
-          let own : o ≡ operandsOf a b = cc in
-          let ready = none-is-ready a b _ _ _ _ (operands-free q (lentChecks a b w) g) in
-          record { free = g; own = own; ready = ready; fits1 = rw own (ready .first .for-numbers); fits2 = rw own (ready .second .for-numbers) }
+module _ (a b : List ℕ) (w : Workspaces) (r : Checked) (e : r ≡ checkedOf a b (length (w .floats1)) (length (w .table1)) (length (w .floats2)) (length (w .table2))) where
+  pub refused-first : (t : Refusal) → r ≡ checked.Refused t → firstOf (lentChecks a b w) ≡ some t
+  refused-first t f = refused-is-first a b _ _ _ _ t r e f
 
-  pub read-refused : (t : Refusal) (r : Checked) → r ≡ checked.Refused t → r ≡ checkedBy (firstAsked q a b w) a b → ReadBoth (firstAsked q a b w) a b w w (both-read.Refused t)
-  unfolding checkedBy storedBy memoryBy
-  read-refused t r e f = go (firstAsked q a b w) f
-    where
-      go : (x : Option Refusal) → r ≡ checkedBy x a b → ReadBoth x a b w w (both-read.Refused t)
-      go (some s) f = let same : t ≡ s = cc in record { answer = rw same; memory = refl }
-      go none f = let z : _≡_ {A = ℕ} 0 1 = cc in absurd (omega arith)
+  pub taken : (o : Operands) → r ≡ checked.Accepted o → Taken a b w o
+  taken o f =
+      let t = are-accepted a b (length (w .floats1)) (length (w .table1)) (length (w .floats2)) (length (w .table2)) o r e f in
+      record { of = t; fits1 = rw (t .own) (t .ready .first .for-numbers); fits2 = rw (t .own) (t .ready .second .for-numbers) }
 
-  pub read-stored : (o : Operands) → Taken (firstAsked q a b w) a b w o → (w′ : Workspaces) → w′ ≡ filled a b w → ReadBoth (firstAsked q a b w) a b w w′ (both-read.Stored (numbersPerRun * o .first .runs) (numbersPerRun * o .second .runs) (o .srid))
+module _ {first : Option Refusal} (a b : List ℕ) (w : Workspaces) where
+  pub read-refused : {t : Refusal} → first ≡ some t → ReadBoth first a b w w (both-read.Refused t)
   unfolding storedBy memoryBy
-  read-stored o t w′ full = record { answer = rw (t .free, t .own); memory = full ∙ rw (t .free) }
+  read-refused e = record { answer = rw e; memory = rw e }
+
+  pub read-stored : {o : Operands} {w′ : Workspaces} → first ≡ none → o ≡ operandsOf a b → w′ ≡ filled a b w → ReadBoth first a b w w′ (both-read.Stored (numbersPerRun * o .first .runs) (numbersPerRun * o .second .runs) (o .srid))
+  unfolding storedBy memoryBy
+  read-stored e own full = record { answer = rw (e, own); memory = full ∙ rw e }
 
 -- ---- the sweep
 

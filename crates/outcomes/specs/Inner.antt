@@ -1,10 +1,12 @@
 -- The steps that the operations share: for inner contracts only. Definitions only.
 use Prim.Native.Nat.{ℕ, _≤_}
 use mathlib.Core.Path.{_≡_}
-use mathlib.Core.Bool.{cond}
+use mathlib.Core.Bool.{Bool, false}
 use mathlib.Core.List.{List, [], _∷_, _++_}
 use mathlib.Core.Option.{Option, none, some}
 use lib.Dec.{ltb}
+use lib.Ieee.{lt}
+use Rattle.ieee754.specs.MinMax.{positiveZero}
 use Rattle.refusals.specs.Checks.{Check, check, firstOf}
 use Rattle.refusals.specs.declared.Refusal.{Refusal}
 use Rattle.gpb.specs.Header.{sridOf}
@@ -15,8 +17,6 @@ use Rattle.extremes.specs.declared.ExtremePair.the-variants as extreme-pair
 use Rattle.workspace.specs.Workspace.{numbersNeeded}
 use Rattle.blob.specs.Blob.{runsOfBlob}
 use Rattle.operands.specs.Operands.{Workspaces, lentChecks, filled}
-use Rattle.operands.specs.declared.Checked.{Checked}
-use Rattle.operands.specs.declared.Checked.the-variants as checked
 use Rattle.outcomes.specs.Answers.{Value, Report, answering, refusing}
 use Rattle.outcomes.specs.Operations.{noSide, toleranceChecks, blobValue}
 use Rattle.outcomes.specs.declared.Asked.{Asked}
@@ -32,10 +32,16 @@ askedChecks asked.Distance operands = operands
 askedChecks (asked.Within d) operands = toleranceChecks d ++ operands
 askedChecks (asked.Bytes lent needed) operands = operands ++ (check (noSide 16) (ltb lent needed) ∷ [])
 
--- 16 after what the checks of the operands answered
-unfoldable pub outputChecked : Checked → ℕ → ℕ → Checked
-outputChecked (checked.Refused r) lent needed = checked.Refused r
-outputChecked (checked.Accepted o) lent needed = cond (ltb lent needed) (checked.Refused (noSide 16)) (checked.Accepted o)
+-- 1 and 16 by themselves
+unfoldable pub belowZero : Asked → Bool
+belowZero asked.Distance = false
+belowZero (asked.Within d) = lt d positiveZero
+belowZero (asked.Bytes lent needed) = false
+
+unfoldable pub tooShort : Asked → Bool
+tooShort asked.Distance = false
+tooShort (asked.Within d) = false
+tooShort (asked.Bytes lent needed) = ltb lent needed
 
 -- the first of them that holds, of the memory lent
 abbrev pub firstAsked : Asked → List ℕ → List ℕ → Workspaces → Option Refusal

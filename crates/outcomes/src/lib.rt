@@ -8,15 +8,12 @@ use refusals::Refusal;
 use workspace::NUMBERS_PER_RUN;
 ghost use mathlib.Core.Path.{_≡_};
 ghost use lib.ListN.{length};
-ghost use Rattle.refusals.specs.Checks.{firstOf};
 ghost use Rattle.gpb.specs.Written.{pointBytes, lineBytes};
-ghost use Rattle.operands.specs.Operands.{operandChecks};
-ghost use Rattle.operands.specs.Inner.{checkedBy};
 ghost use Rattle.outcomes.specs.Lent.{lent, left};
 ghost use Rattle.outcomes.specs.Answers.{answerReport, decisionReport, writtenReport};
 ghost use Rattle.outcomes.specs.Operations.{distanceValue, withinValue, touchingValue};
 ghost use Rattle.outcomes.specs.Operations.{lineAfter, pointAfter};
-ghost use Rattle.outcomes.specs.Inner.{askedChecks, outputChecked, firstAsked, ReadBoth};
+ghost use Rattle.outcomes.specs.Inner.{belowZero, tooShort, firstAsked, ReadBoth};
 ghost use Rattle.outcomes.specs.Inner.{sweptOf, sweptReport, SweptWritten, Fits};
 
 // A number (may be NaN), none, or a refusal.
@@ -65,48 +62,25 @@ pub enum Swept {
     Refused(Refusal),
 }
 
-// 16 comes last.
-fn check_output(checked: Checked, lent: usize, needed: usize) -> Checked
-    ensures { λ r. ⌜ r ≡ outputChecked checked lent needed ⌝ }
+// 1, which comes first: a tolerance below 0.
+fn below_zero(asked: Asked) -> bool
+    ensures { λ r. ⌜ r ≡ belowZero asked ⌝ }
 {
-    match checked {
-        Checked::Refused(refusal) => Checked::Refused(refusal),
-        Checked::Accepted(o) => if lent < needed {
-            Checked::Refused(Refusal {
-                number: 16,
-                side: 0,
-            })
-        } else {
-            Checked::Accepted(o)
-        },
+    match asked {
+        Asked::Distance => false,
+        Asked::Within(d) => d < 0.0,
+        Asked::Bytes { lent: _, needed: _ } => false,
     }
 }
 
-// Every check of an operation; floats1 and so on are the lengths lent.
-fn check(
-    a: &[u8],
-    b: &[u8],
-    asked: Asked,
-    floats1: usize,
-    numbers1: usize,
-    floats2: usize,
-    numbers2: usize,
-) -> Checked
-    ensures { λ r. ⌜ r ≡ checkedBy (firstOf (askedChecks asked
-        (operandChecks (now (a .entry)) (now (b .entry)) floats1 numbers1 floats2 numbers2)))
-        (now (a .entry)) (now (b .entry)) ⌝ }
+// 16, which comes last: an output of fewer bytes than are needed.
+fn too_short(asked: Asked) -> bool
+    ensures { λ r. ⌜ r ≡ tooShort asked ⌝ }
 {
     match asked {
-        Asked::Distance => operands::check(a, b, floats1, numbers1, floats2, numbers2),
-        Asked::Within(d) => if d < 0.0 {
-            Checked::Refused(Refusal { number: 1, side: 0 })
-        } else {
-            operands::check(a, b, floats1, numbers1, floats2, numbers2)
-        },
-        Asked::Bytes { lent, needed } => {
-            let checked = operands::check(a, b, floats1, numbers1, floats2, numbers2);
-            check_output(checked, lent, needed)
-        }
+        Asked::Distance => false,
+        Asked::Within(_) => false,
+        Asked::Bytes { lent, needed } => lent < needed,
     }
 }
 
@@ -121,12 +95,15 @@ pub fn read_both(
     table2: &mut [u32],
 ) -> BothRead
     ensures { λ r. ⌜ ReadBoth (firstAsked asked (now (a .entry)) (now (b .entry)) (lent floats1 table1 floats2 table2))
-        (now (a .entry)) (now (b .entry)) (lent floats1 table1 floats2 table2) (left floats1 table1 floats2 table2) r ⌝ }
+        (now (a .entry)) (now (b .entry))
+        (lent floats1 table1 floats2 table2) (left floats1 table1 floats2 table2) r ⌝ }
 {
-    match check(
+    if below_zero(asked) {
+        return BothRead::Refused(Refusal { number: 1, side: 0 });
+    }
+    match operands::check(
         a,
         b,
-        asked,
         floats1.len(),
         table1.len(),
         floats2.len(),
@@ -134,6 +111,12 @@ pub fn read_both(
     ) {
         Checked::Refused(refusal) => BothRead::Refused(refusal),
         Checked::Accepted(o) => {
+            if too_short(asked) {
+                return BothRead::Refused(Refusal {
+                    number: 16,
+                    side: 0,
+                });
+            }
             let first = o.first;
             let second = o.second;
             let numbers1 = NUMBERS_PER_RUN * first.runs;
