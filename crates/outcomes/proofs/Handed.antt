@@ -15,14 +15,7 @@ use Rattle.parts.specs.Stored.{storedRuns, Laid}
 use Rattle.parts.proofs.Filled.{laid-written, stored-written, vertices-written}
 use Rattle.items.specs.Items.{itemsOf}
 use Rattle.blob.specs.Blob.{runsOfBlob}
-use Rattle.operands.specs.Operands.{Workspaces, workspaces, filled}
-use Rattle.operands.specs.Inner.{operandsOf, Ready}
-use Rattle.operands.specs.declared.Operands.{Operands}
 use Rattle.outcomes.specs.Operations.{vertexPoints, itemsOfBlob}
-
--- a part of a list, by its length
-pub taken : {A : Type 0} (n : ℕ) (l : List A) → n ≤ length l → n ≡ length (take n l)
-taken n l h = simp length-take (omega arith)
 
 -- ---- one side
 
@@ -49,8 +42,6 @@ pub record Handed (s : List ℕ) (coords runs : ℕ) (floats : List Float) (tabl
   pub for-numbers : numbersPerRun * runs ≤ length table
   pub laid : Laid (take (numbersPerRun * runs) table) (take (floatsPerCoordinate * coords) floats)
   pub runs-stored : storedRuns (take (numbersPerRun * runs) table) (take (floatsPerCoordinate * coords) floats) ≡ mapRuns pointOf (runsOfBlob s)
-  pub vertices : verticesOf (storedRuns (take (numbersPerRun * runs) table) (take (floatsPerCoordinate * coords) floats)) ≡ vertexPoints s
-  pub items : itemsOf (storedRuns (take (numbersPerRun * runs) table) (take (floatsPerCoordinate * coords) floats)) ≡ itemsOfBlob s
 
 pub handed : (s : List ℕ) (floats : List Float) (table : List ℕ) → Handed s (coordinateCount (runsOfBlob s)) (length (runsOfBlob s)) (floatsWith (runsOfBlob s) floats) (tableWith (runsOfBlob s) table)
 handed s floats table =
@@ -62,24 +53,26 @@ handed s floats table =
       for-numbers = enough-numbers rs floats table;
       laid = rw (f, n, ← append-nil (floatsOf rs)) (laid-written rs []);
       runs-stored = rw (f, n, ← append-nil (floatsOf rs)) (stored-written rs []);
-      vertices = rw (f, n, ← append-nil (floatsOf rs)) (vertices-written rs []);
-      items = rw (f, n, ← append-nil (floatsOf rs)) (ap itemsOf (stored-written rs []));
     }
 
--- ---- both sides, once they are filled
+-- the same with all floats: those that follow are not read
+pub record Side (s : List ℕ) (numbers : ℕ) (floats : List Float) (table : List ℕ) : Type 0 where
+  pub fits : numbers ≤ length table
+  pub long : numbers ≡ length (take numbers table)
+  pub laid : Laid (take numbers table) floats
+  pub items : itemsOf (storedRuns (take numbers table) floats) ≡ itemsOfBlob s
+  pub vertices : verticesOf (storedRuns (take numbers table) floats) ≡ vertexPoints s
 
-module _ (a b : List ℕ) (o : Operands) (f g : List Float) (t u : List ℕ) (own : o ≡ operandsOf a b) (ready : Ready a b (length f) (length t) (length g) (length u)) where
-  pub needed-first : (floatsPerCoordinate * o .first .coords ≤ length f) × (numbersPerRun * o .first .runs ≤ length t)
-  needed-first = rw own (ready .first .for-floats, ready .first .for-numbers)
-
-  pub needed-second : (floatsPerCoordinate * o .second .coords ≤ length g) × (numbersPerRun * o .second .runs ≤ length u)
-  needed-second = rw own (ready .second .for-floats, ready .second .for-numbers)
-
-  module _ (f′ g′ : List Float) (t′ u′ : List ℕ) (full : workspaces f′ t′ g′ u′ ≡ filled a b (workspaces f t g u)) where
-    pub handed-first : Handed a (o .first .coords) (o .first .runs) f′ t′
-    unfolding filled
-    handed-first = rw (own, ap (λ (w : Workspaces). w .floats1) full, ap (λ (w : Workspaces). w .table1) full) (handed a f t)
-
-    pub handed-second : Handed b (o .second .coords) (o .second .runs) g′ u′
-    unfolding filled
-    handed-second = rw (own, ap (λ (w : Workspaces). w .floats2) full, ap (λ (w : Workspaces). w .table2) full) (handed b g u)
+pub side : (s : List ℕ) (floats : List Float) (table : List ℕ) → Side s (numbersNeeded (runsOfBlob s)) (floatsWith (runsOfBlob s) floats) (tableWith (runsOfBlob s) table)
+unfolding floatsWith
+side s floats table =
+    let rs = runsOfBlob s in
+    let rest = drop (floatsNeeded rs) floats in
+    let n = first-numbers rs floats table in
+    record {
+      fits = enough-numbers rs floats table;
+      long = simp length-take (omega (arith, enough-numbers rs floats table));
+      laid = rw n (laid-written rs rest);
+      items = rw n (ap itemsOf (stored-written rs rest));
+      vertices = rw n (vertices-written rs rest);
+    }

@@ -1,98 +1,56 @@
 -- `threed_farthest::farthest_pair` meets its contract. Assumes nothing.
 use mathlib.Core.Path.{_∙_}
-use native.Mathlib.Omega.{arith}
 use Rattle.outcomes.specs.Operations.{farthestPair}
-use Rattle.outcomes.proofs.Handed.{taken, needed-first, needed-second, handed-first, handed-second}
+use Rattle.outcomes.proofs.Steps.{swept-refused, sides, swept-found}
 use borrow.Author.Needs.{needs}
 use Rattle.threed_farthest.proofs.farthest_pair.Statement.{statement}
 use Rattle.threed_farthest.proofs.farthest_pair.Tie as tie
 
-mul-ordinates1 : tie.Need-mul-ordinates1
-mul-ordinates1 c = let e = c .before .before .before .before .before .before .before .before .before in let n = needed-first (e .args .a .now) (e .args .b .now) (e .args .o) (e .args .floats1 .now) (e .args .floats2 .now) (e .args .table1 .now) (e .args .table2 .now) (e .pre .0) (e .pre .1) in omega arith
-
-mul-ordinates2 : tie.Need-mul-ordinates2
-mul-ordinates2 c = let e = c .before .before .before .before .before .before .before .before .before .before in let n = needed-second (e .args .a .now) (e .args .b .now) (e .args .o) (e .args .floats1 .now) (e .args .floats2 .now) (e .args .table1 .now) (e .args .table2 .now) (e .pre .0) (e .pre .1) in omega arith
-
-mul-numbers1 : tie.Need-mul-numbers1
-mul-numbers1 c = let e = c .before .before .before .before .before .before .before .before .before .before .before in let n = needed-first (e .args .a .now) (e .args .b .now) (e .args .o) (e .args .floats1 .now) (e .args .floats2 .now) (e .args .table1 .now) (e .args .table2 .now) (e .pre .0) (e .pre .1) in omega arith
-
-mul-numbers2 : tie.Need-mul-numbers2
-mul-numbers2 c = let e = c .before .before .before .before .before .before .before .before .before .before .before .before in let n = needed-second (e .args .a .now) (e .args .b .now) (e .args .o) (e .args .floats1 .now) (e .args .floats2 .now) (e .args .table1 .now) (e .args .table2 .now) (e .pre .0) (e .pre .1) in omega arith
-
-fill-requires : tie.Need-fill-requires
-fill-requires c κs = search needs
-
 slice-reshare-prefix-farthest : tie.Need-slice-reshare-prefix-farthest
-slice-reshare-prefix-farthest c = let e = c .before .before .before .before .before .before .before .before .before .before .before .before .before .before .before .before .before .before .before .before .before .before .before .before .before in handed-first (e .args .a .now) (e .args .b .now) (e .args .o) _ _ _ _ (e .pre .0) (e .pre .1) _ _ _ _ (c .before .before .before .before .before .before .before .before .fill .ensures) .for-floats
+slice-reshare-prefix-farthest c = let k = c .before .before in let s = sides (k .before .before .before .before .before .before .before .before .before .before .read-both .ensures) (k .numbers1 .given .1) in s .0 .fits
 
 slice-aggregate-farthest : tie.Need-slice-aggregate-farthest
-slice-aggregate-farthest c = let e = c .before .before .before .before .before .before .before .before .before .before .before .before .before .before .before .before .before .before .before .before .before .before .before .before .before .before in taken _ _ (handed-first (e .args .a .now) (e .args .b .now) (e .args .o) _ _ _ _ (e .pre .0) (e .pre .1) _ _ _ _ (c .before .before .before .before .before .before .before .before .before .fill .ensures) .for-floats)
+slice-aggregate-farthest c = let k = c .before .before .before in let s = sides (k .before .before .before .before .before .before .before .before .before .before .read-both .ensures) (k .numbers1 .given .1) in s .0 .long
 
 slice-reshare-prefix-farthest-2 : tie.Need-slice-reshare-prefix-farthest-2
-slice-reshare-prefix-farthest-2 c = let e = c .before .before .before .before .before .before .before .before .before .before .before .before .before .before .before .before .before .before .before .before .before .before .before .before .before .before in handed-first (e .args .a .now) (e .args .b .now) (e .args .o) _ _ _ _ (e .pre .0) (e .pre .1) _ _ _ _ (c .before .before .before .before .before .before .before .before .before .fill .ensures) .for-numbers
+slice-reshare-prefix-farthest-2 c = let k = c .before .before .before .before in let s = sides (k .before .before .before .before .before .before .before .before .before .before .read-both .ensures) (k .numbers1 .given .1) in s .1 .fits
 
 slice-aggregate-farthest-2 : tie.Need-slice-aggregate-farthest-2
-slice-aggregate-farthest-2 c = let e = c .before .before .before .before .before .before .before .before .before .before .before .before .before .before .before .before .before .before .before .before .before .before .before .before .before .before .before in taken _ _ (handed-first (e .args .a .now) (e .args .b .now) (e .args .o) _ _ _ _ (e .pre .0) (e .pre .1) _ _ _ _ (c .before .before .before .before .before .before .before .before .before .before .fill .ensures) .for-numbers)
-
-slice-reshare-prefix-farthest-3 : tie.Need-slice-reshare-prefix-farthest-3
-slice-reshare-prefix-farthest-3 c = let e = c .before .before .before .before .before .before .before .before .before .before .before .before .before .before .before .before .before .before .before .before .before .before .before .before .before .before .before in handed-second (e .args .a .now) (e .args .b .now) (e .args .o) _ _ _ _ (e .pre .0) (e .pre .1) _ _ _ _ (c .before .before .before .before .before .before .before .before .before .before .fill .ensures) .for-floats
-
-slice-aggregate-farthest-3 : tie.Need-slice-aggregate-farthest-3
-slice-aggregate-farthest-3 c = let e = c .before .before .before .before .before .before .before .before .before .before .before .before .before .before .before .before .before .before .before .before .before .before .before .before .before .before .before .before in taken _ _ (handed-second (e .args .a .now) (e .args .b .now) (e .args .o) _ _ _ _ (e .pre .0) (e .pre .1) _ _ _ _ (c .before .before .before .before .before .before .before .before .before .before .before .fill .ensures) .for-floats)
-
-slice-reshare-prefix-farthest-4 : tie.Need-slice-reshare-prefix-farthest-4
-slice-reshare-prefix-farthest-4 c = let e = c .before .before .before .before .before .before .before .before .before .before .before .before .before .before .before .before .before .before .before .before .before .before .before .before .before .before .before .before in handed-second (e .args .a .now) (e .args .b .now) (e .args .o) _ _ _ _ (e .pre .0) (e .pre .1) _ _ _ _ (c .before .before .before .before .before .before .before .before .before .before .before .fill .ensures) .for-numbers
-
-slice-aggregate-farthest-4 : tie.Need-slice-aggregate-farthest-4
-slice-aggregate-farthest-4 c = let e = c .before .before .before .before .before .before .before .before .before .before .before .before .before .before .before .before .before .before .before .before .before .before .before .before .before .before .before .before .before in taken _ _ (handed-second (e .args .a .now) (e .args .b .now) (e .args .o) _ _ _ _ (e .pre .0) (e .pre .1) _ _ _ _ (c .before .before .before .before .before .before .before .before .before .before .before .before .fill .ensures) .for-numbers)
+slice-aggregate-farthest-2 c = let k = c .before .before .before .before .before in let s = sides (k .before .before .before .before .before .before .before .before .before .before .read-both .ensures) (k .numbers1 .given .1) in s .1 .long
 
 farthest-requires : tie.Need-farthest-requires
-farthest-requires c κs =
-    let e = c .before .before .before .before .before .before .before .before .before .before .before .before .before .before .before .before .before .before .before .before .before .before .before .before .before .before .before .before .before in
-    let h1 = handed-first (e .args .a .now) (e .args .b .now) (e .args .o) _ _ _ _ (e .pre .0) (e .pre .1) _ _ _ _ (c .before .before .before .before .before .before .before .before .before .before .before .before .fill .ensures) in
-    let h2 = handed-second (e .args .a .now) (e .args .b .now) (e .args .o) _ _ _ _ (e .pre .0) (e .pre .1) _ _ _ _ (c .before .before .before .before .before .before .before .before .before .before .before .before .fill .ensures) in
-    (h1 .laid, h2 .laid)
-
-same-length : tie.Need-same-length
-same-length c = c .before .before .before .before .before .before .before .before .before .before .before .before .before .fill .kept .1 .1 .1 .0
-
-same-length-2 : tie.Need-same-length-2
-same-length-2 c = c .before .before .before .before .before .before .before .before .before .before .before .before .before .fill .kept .1 .1 .1 .1 .0
-
-same-length-3 : tie.Need-same-length-3
-same-length-3 c = c .before .before .before .before .before .before .before .before .before .before .before .before .before .fill .kept .1 .1 .1 .1 .1 .0
-
-same-length-4 : tie.Need-same-length-4
-same-length-4 c = c .before .before .before .before .before .before .before .before .before .before .before .before .before .fill .kept .1 .1 .1 .1 .1 .1 .0
+farthest-requires c κs = let k = c .before .before .before .before .before in let s = sides (k .before .before .before .before .before .before .before .before .before .before .read-both .ensures) (k .numbers1 .given .1) in (s .0 .laid, s .1 .laid)
 
 returns : tie.Need-returns
+returns c = swept-refused (c .before .before .before .before .before .before .before .before .before .before .before .read-both .ensures) _ _ (c .before .refusal .given .1)
+
+returns-2 : tie.Need-returns-2
 unfolding farthestPair
-returns c =
-    let e = c .before .before .before .before .before .before .before .before .before .before .before .before .before .before .before .before .before .before .before .before .before .before .before .before .before .before .before .before .before .before in
-    let h1 = handed-first (e .args .a .now) (e .args .b .now) (e .args .o) _ _ _ _ (e .pre .0) (e .pre .1) _ _ _ _ (c .before .before .before .before .before .before .before .before .before .before .before .before .before .fill .ensures) in
-    let h2 = handed-second (e .args .a .now) (e .args .b .now) (e .args .o) _ _ _ _ (e .pre .0) (e .pre .1) _ _ _ _ (c .before .before .before .before .before .before .before .before .before .before .before .before .before .fill .ensures) in
-    record { found = c .farthest .ensures ∙ rw (h1 .vertices, h2 .vertices); memory = c .before .before .before .before .before .before .before .before .before .before .before .before .before .fill .ensures }
+returns-2 c =
+    let k = c .before .before .before .before .before .before .before in
+    let s = sides (k .before .before .before .before .before .before .before .before .before .before .read-both .ensures) (k .numbers1 .given .1) in
+    swept-found (k .before .before .before .before .before .before .before .before .before .before .read-both .ensures) (k .numbers1 .given .1) _ (c .before .farthest .ensures ∙ rw (s .0 .vertices, s .1 .vertices)) (c .with-srid .ensures)
 
 pub farthest-pair-spec : {M : Type 1} → statement M
 farthest-pair-spec =
     tie.close
     (tie.spec
-    mul-ordinates1
-    mul-ordinates2
-    mul-numbers1
-    mul-numbers2
-    fill-requires
+    (λ c κs. search needs)
+    (λ c. search needs)
+    (λ c. search needs)
     slice-reshare-prefix-farthest
     slice-aggregate-farthest
     slice-reshare-prefix-farthest-2
     slice-aggregate-farthest-2
-    slice-reshare-prefix-farthest-3
-    slice-aggregate-farthest-3
-    slice-reshare-prefix-farthest-4
-    slice-aggregate-farthest-4
     farthest-requires
-    same-length
-    same-length-2
-    same-length-3
-    same-length-4
-    returns)
+    (λ c κs. search needs)
+    (λ c. search needs)
+    (λ c. search needs)
+    (λ c. search needs)
+    (λ c. search needs)
+    returns
+    (λ c. search needs)
+    (λ c. search needs)
+    (λ c. search needs)
+    (λ c. search needs)
+    returns-2)

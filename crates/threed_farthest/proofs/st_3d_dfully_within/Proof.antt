@@ -1,132 +1,23 @@
 -- `threed_farthest::st_3d_dfully_within` meets its contract. Assumes nothing.
-use Rattle.operands.specs.Operands.{workspaces}
-use Rattle.outcomes.specs.Operations.{farthestPair, maxDistance, fullyWithin}
-use Rattle.outcomes.proofs.Outcomes.{below-zero, within-refused, within-nothing, within-yes, within-no}
+use Rattle.outcomes.specs.Operations.{withinValue, fullyWithin}
+use Rattle.outcomes.specs.Inner.{askedChecks}
+use Rattle.outcomes.proofs.Steps.{told}
 use borrow.Author.Needs.{needs}
 use Rattle.threed_farthest.proofs.st_3d_dfully_within.Statement.{statement}
 use Rattle.threed_farthest.proofs.st_3d_dfully_within.Tie as tie
 
 returns : tie.Need-returns
-unfolding fullyWithin
-returns c =
-    let e = c .before .before .before .before .before .before .before in
-    let w = workspaces (e .args .floats1 .now) (e .args .table1 .now) (e .args .floats2 .now) (e .args .table2 .now) in
-    below-zero (e .args .a .now) (e .args .b .now) (farthestPair (e .args .a .now) (e .args .b .now)) (e .args .d) w (c .if1 .taken)
-
-st-3d-max-distance-requires : tie.Need-st-3d-max-distance-requires
-st-3d-max-distance-requires c κs = search needs
-
-enum-known-refusal : tie.Need-enum-known-refusal
-enum-known-refusal c = search needs
-
-enum-told : tie.Need-enum-told
-enum-told c = search needs
-
-enum-known-m : tie.Need-enum-known-m
-enum-known-m c = search needs
-
-same-length : tie.Need-same-length
-same-length c = c .before .before .before .before .before .before .before .before .before .before .before .st-3d-max-distance .kept .1 .1 .0
-
-same-length-2 : tie.Need-same-length-2
-same-length-2 c = c .before .before .before .before .before .before .before .before .before .before .before .st-3d-max-distance .kept .1 .1 .1 .0
-
-same-length-3 : tie.Need-same-length-3
-same-length-3 c = c .before .before .before .before .before .before .before .before .before .before .before .st-3d-max-distance .kept .1 .1 .1 .1 .0
-
-same-length-4 : tie.Need-same-length-4
-same-length-4 c = c .before .before .before .before .before .before .before .before .before .before .before .st-3d-max-distance .kept .1 .1 .1 .1 .1 .0
-
-returns-2 : tie.Need-returns-2
-unfolding fullyWithin maxDistance
-returns-2 c =
-    let e = c .before .before .before .before .before .before .before .before .before .before .before .before .before .before .before .before .before .before .before .before .before .before .before in
-    let w = workspaces (e .args .floats1 .now) (e .args .table1 .now) (e .args .floats2 .now) (e .args .table2 .now) in
-    within-refused (e .args .a .now) (e .args .b .now) (farthestPair (e .args .a .now) (e .args .b .now)) (e .args .d) w _ (c .before .before .before .before .before .before .before .before .before .before .before .before .before .before .before .before .if1 .left) _ (c .before .before .before .before .before .before .before .before .before .before .before .st-3d-max-distance .ensures) _ ((c .before .refusal .given) .1)
-
-same-length-5 : tie.Need-same-length-5
-same-length-5 c = c .before .before .before .before .before .before .before .before .before .before .st-3d-max-distance .kept .1 .1 .0
-
-same-length-6 : tie.Need-same-length-6
-same-length-6 c = c .before .before .before .before .before .before .before .before .before .before .st-3d-max-distance .kept .1 .1 .1 .0
-
-same-length-7 : tie.Need-same-length-7
-same-length-7 c = c .before .before .before .before .before .before .before .before .before .before .st-3d-max-distance .kept .1 .1 .1 .1 .0
-
-same-length-8 : tie.Need-same-length-8
-same-length-8 c = c .before .before .before .before .before .before .before .before .before .before .st-3d-max-distance .kept .1 .1 .1 .1 .1 .0
-
-returns-3 : tie.Need-returns-3
-unfolding fullyWithin maxDistance
-returns-3 c =
-    let e = c .before .before .before .before .before .before .before .before .before .before .before .before .before .before .before .before .before .before .before .before .before .before in
-    let w = workspaces (e .args .floats1 .now) (e .args .table1 .now) (e .args .floats2 .now) (e .args .table2 .now) in
-    within-nothing (e .args .a .now) (e .args .b .now) (farthestPair (e .args .a .now) (e .args .b .now)) (e .args .d) w _ (c .before .before .before .before .before .before .before .before .before .before .before .before .before .before .before .if1 .left) _ (c .before .before .before .before .before .before .before .before .before .before .st-3d-max-distance .ensures) ((c .enum-told .given) .1)
-
-same-length-9 : tie.Need-same-length-9
-same-length-9 c = c .before .before .before .before .before .before .before .before .before .before .before .before .st-3d-max-distance .kept .1 .1 .0
-
-same-length-10 : tie.Need-same-length-10
-same-length-10 c = c .before .before .before .before .before .before .before .before .before .before .before .before .st-3d-max-distance .kept .1 .1 .1 .0
-
-same-length-11 : tie.Need-same-length-11
-same-length-11 c = c .before .before .before .before .before .before .before .before .before .before .before .before .st-3d-max-distance .kept .1 .1 .1 .1 .0
-
-same-length-12 : tie.Need-same-length-12
-same-length-12 c = c .before .before .before .before .before .before .before .before .before .before .before .before .st-3d-max-distance .kept .1 .1 .1 .1 .1 .0
-
-returns-4 : tie.Need-returns-4
-unfolding fullyWithin maxDistance
-returns-4 c =
-    let e = c .before .before .before .before .before .before .before .before .before .before .before .before .before .before .before .before .before .before .before .before .before .before .before .before in
-    let w = workspaces (e .args .floats1 .now) (e .args .table1 .now) (e .args .floats2 .now) (e .args .table2 .now) in
-    within-yes (e .args .a .now) (e .args .b .now) (farthestPair (e .args .a .now) (e .args .b .now)) (e .args .d) w _ (c .before .before .before .before .before .before .before .before .before .before .before .before .before .before .before .before .before .if1 .left) _ (c .before .before .before .before .before .before .before .before .before .before .before .before .st-3d-max-distance .ensures) _ ((c .before .before .m .given) .1) (c .if2 .taken)
-
-same-length-13 : tie.Need-same-length-13
-same-length-13 c = c .before .before .before .before .before .before .before .before .before .before .before .before .st-3d-max-distance .kept .1 .1 .0
-
-same-length-14 : tie.Need-same-length-14
-same-length-14 c = c .before .before .before .before .before .before .before .before .before .before .before .before .st-3d-max-distance .kept .1 .1 .1 .0
-
-same-length-15 : tie.Need-same-length-15
-same-length-15 c = c .before .before .before .before .before .before .before .before .before .before .before .before .st-3d-max-distance .kept .1 .1 .1 .1 .0
-
-same-length-16 : tie.Need-same-length-16
-same-length-16 c = c .before .before .before .before .before .before .before .before .before .before .before .before .st-3d-max-distance .kept .1 .1 .1 .1 .1 .0
-
-returns-5 : tie.Need-returns-5
-unfolding fullyWithin maxDistance
-returns-5 c =
-    let e = c .before .before .before .before .before .before .before .before .before .before .before .before .before .before .before .before .before .before .before .before .before .before .before .before in
-    let w = workspaces (e .args .floats1 .now) (e .args .table1 .now) (e .args .floats2 .now) (e .args .table2 .now) in
-    within-no (e .args .a .now) (e .args .b .now) (farthestPair (e .args .a .now) (e .args .b .now)) (e .args .d) w _ (c .before .before .before .before .before .before .before .before .before .before .before .before .before .before .before .before .before .if1 .left) _ (c .before .before .before .before .before .before .before .before .before .before .before .before .st-3d-max-distance .ensures) _ ((c .before .before .m .given) .1) (c .if2 .left)
+unfolding fullyWithin askedChecks
+returns c = told (c .before .before .before .before .before .before .before .before .before .farthest-pair .ensures) (withinValue _) (c .within .ensures)
 
 pub st-3d-dfully-within-spec : {M : Type 1} → statement M
 st-3d-dfully-within-spec =
     tie.close
     (tie.spec
-    returns
-    st-3d-max-distance-requires
-    enum-known-refusal
-    enum-told
-    enum-known-m
-    same-length
-    same-length-2
-    same-length-3
-    same-length-4
-    returns-2
-    same-length-5
-    same-length-6
-    same-length-7
-    same-length-8
-    returns-3
-    same-length-9
-    same-length-10
-    same-length-11
-    same-length-12
-    returns-4
-    same-length-13
-    same-length-14
-    same-length-15
-    same-length-16
-    returns-5)
+    (λ c κs. search needs)
+    (λ c κs. search needs)
+    (λ c. search needs)
+    (λ c. search needs)
+    (λ c. search needs)
+    (λ c. search needs)
+    returns)

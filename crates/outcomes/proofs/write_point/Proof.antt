@@ -1,0 +1,36 @@
+-- `outcomes::write_point` meets its contract. Assumes nothing.
+use Rattle.outcomes.specs.Answers.{writtenReport}
+use Rattle.outcomes.specs.Operations.{blobValue, pointAfter}
+use Rattle.outcomes.specs.Inner.{sweptReport, sweptOutput, Fits}
+use borrow.Author.Needs.{needs}
+use Rattle.outcomes.proofs.write_point.Statement.{statement}
+use Rattle.outcomes.proofs.write_point.Tie as tie
+
+write-point-requires : tie.Need-write-point-requires
+unfolding Fits
+write-point-requires c κs = rw (c .before .before .pair2 .given .1) at (c .before .before .before .before .before .pre)
+
+returns : tie.Need-returns
+unfolding writtenReport blobValue pointAfter sweptReport sweptOutput
+returns c = let e = c .before .pair .given .1 in record { told = rw e; left = rw e }
+
+returns-2 : tie.Need-returns-2
+unfolding writtenReport blobValue pointAfter sweptReport sweptOutput
+returns-2 c = let e = c .enum-told .given .1 in record { told = rw e; left = rw e }
+
+returns-3 : tie.Need-returns-3
+unfolding writtenReport blobValue pointAfter sweptReport sweptOutput
+returns-3 c = let e = c .before .before .before .before .before .pair2 .given .1 in record { told = rw e; left = rw e (c .before .before .write-point .ensures) }
+
+pub write-point-spec : {M : Type 1} → statement M
+write-point-spec =
+    tie.close
+    (tie.spec
+    (λ c. search needs)
+    (λ c. search needs)
+    (λ c. search needs)
+    write-point-requires
+    returns
+    returns-2
+    (λ c. search needs)
+    returns-3)

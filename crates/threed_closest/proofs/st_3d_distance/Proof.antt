@@ -1,0 +1,23 @@
+-- `threed_closest::st_3d_distance` meets its contract. Assumes nothing.
+use Rattle.outcomes.specs.Operations.{distanceValue, distance}
+use Rattle.outcomes.specs.Inner.{askedChecks}
+use Rattle.outcomes.proofs.Steps.{told}
+use borrow.Author.Needs.{needs}
+use Rattle.threed_closest.proofs.st_3d_distance.Statement.{statement}
+use Rattle.threed_closest.proofs.st_3d_distance.Tie as tie
+
+returns : tie.Need-returns
+unfolding distance askedChecks
+returns c = told (c .before .before .before .before .before .before .before .before .before .closest-pair .ensures) distanceValue (c .measured .ensures)
+
+pub st-3d-distance-spec : {M : Type 1} → statement M
+st-3d-distance-spec =
+    tie.close
+    (tie.spec
+    (λ c κs. search needs)
+    (λ c κs. search needs)
+    (λ c. search needs)
+    (λ c. search needs)
+    (λ c. search needs)
+    (λ c. search needs)
+    returns)
