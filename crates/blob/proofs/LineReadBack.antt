@@ -16,7 +16,7 @@ use Rattle.gpb.specs.declared.Header.the-variants as gp
 use Rattle.gpb.specs.Written.{lineBytes, headerBytes, ordinateBytes, coordinateBytes, lineBlob}
 use Rattle.gpb.proofs.HeaderLaws.{accepted-3d, accepted}
 use Rattle.gpb.proofs.ReadBack.{LineFields, line-header-back, line-fields-back, line-length, line-taken}
-use Rattle.coords.specs.Walk.{Coordinate, Geometry, geometry, line, ok, mapParsed, zOf, mOf, headerOfType, headerAt, strideOf, ordinateIf, coordinateAt, coordinatesFrom, coordinatesAt, lineAt, classOf, contentOf, geometryFrom, walkOf, allLevels}
+use Rattle.coords.specs.Walk.{Coordinate, Geometry, geometry, line, ok, mapParsed, zOf, mOf, headerOfType, headerAt, strideOf, ordinateIf, coordinateAt, coordinatesFrom, coordinatesAt, lineAt, geometryClassOf, contentOf, geometryFrom, walkOf, allLevels}
 use Rattle.coords.specs.Parts.{run, nonEmptyRun, contentRuns, runsOf}
 use Rattle.blob.specs.Blob.{walkOfBlob}
 
@@ -42,7 +42,7 @@ found-none (some k) s at code srid h = let z : _≡_ {A = ℕ} 0 1 = cc in absur
 
 -- the walk at byte 8, by the bytes that it reads: little-endian, type 1002, count 2, six patterns
 walk-by-fields : (levels : ℕ) (s : List ℕ) (ax ay az bx by bz : ℕ) → lineBytes ≤ length s → getD s 8 0 ≡ 1 → u32At true s 9 ≡ 1002 → LineFields s ax ay az bx by bz → walkOf (suc levels) s 8 ≡ ok (lineGeometry (coordinateOf ax ay az) (coordinateOf bx by bz)) lineBytes
-unfolding walkOf geometryFrom headerAt headerOfType zOf mOf classOf contentOf mapParsed lineAt coordinatesAt coordinatesFrom coordinateAt strideOf ordinateIf
+unfolding walkOf geometryFrom headerAt headerOfType zOf mOf geometryClassOf contentOf mapParsed lineAt coordinatesAt coordinatesFrom coordinateAt strideOf ordinateIf
 walk-by-fields levels s ax ay az bx by bz h order type f =
     simp (le-ltb (length s) 13 (omega arith), order, type, le-ltb (length s) 17 (omega arith), f .count, le-ltb (length s) lineBytes h, f .first-x, f .first-y, f .first-z, f .second-x, f .second-y, f .second-z)
 

@@ -13,7 +13,7 @@ use Rattle.gpb.specs.Header.{geometryStart}
 use Rattle.coords.specs.Walk.{walkOf, allLevels}
 use Rattle.coords.specs.Parts.{coordinateCount, walkedRuns}
 use Rattle.coords.proofs.Inside.{walked-counts}
-use Rattle.workspace.specs.Workspace.{floatsPerCoordinate, numbersPerRun, tooSmallFor, Room, Written}
+use Rattle.workspace.specs.Workspace.{floatsPerCoordinate, numbersPerRun, tooSmallFor, Room, RunsWritten}
 use Rattle.workspace.proofs.Laws.{not-too-small}
 use Rattle.blob.specs.Blob.{runsOfBlob, bytesChecks, blobChecks, refusal, sizesBy, sizesOf, answerBy, floatsBy, tableBy, BlobOutcome}
 use Rattle.blob.specs.Inner.{operandOf}
@@ -61,8 +61,8 @@ module _ (s : List ℕ) (v : Operand) (e : (firstOf (bytesChecks s) ≡ none) ×
           let f = not-too-small (coordinateCount (runsOfBlob s)) (length (runsOfBlob s)) (length fs) (length ts) fits in
           rw (e .1) (record { accepted = bytes-accepted s (e .0); for-floats = f .0; for-numbers = f .1 })
 
-      pub outcome-read : (fs′ : List Float) (ts′ : List ℕ) → Written (walkedRuns (walkOf allLevels s (v .at))) fs ts fs′ ts′ → BlobOutcome s fs ts fs′ ts′ (blob-read.Read (v .coords) (v .runs) (v .srid))
+      pub outcome-read : (fs′ : List Float) (ts′ : List ℕ) → RunsWritten (walkedRuns (walkOf allLevels s (v .at))) fs ts fs′ ts′ → BlobOutcome s fs ts fs′ ts′ (blob-read.Read (v .coords) (v .runs) (v .srid))
       unfolding answerBy floatsBy tableBy
       outcome-read fs′ ts′ w =
-          let m : Written (runsOfBlob s) fs ts fs′ ts′ = subst (λ (o : Operand). Written (walkedRuns (walkOf allLevels s (o .at))) fs ts fs′ ts′) (e .1) w in
+          let m : RunsWritten (runsOfBlob s) fs ts fs′ ts′ = subst (λ (o : Operand). RunsWritten (walkedRuns (walkOf allLevels s (o .at))) fs ts fs′ ts′) (e .1) w in
           rw (e .1) (outcome-by s fs fs′ ts ts′ none (room-last s (length fs) (length ts) (e .0) ∙ rw fits) (m .ordinates) (m .rows))

@@ -19,7 +19,7 @@ use Rattle.gpb.specs.declared.Header.the-variants as gp
 use Rattle.gpb.specs.Written.{pointBytes, headerBytes, ordinateBytes, coordinateBytes, pointBlob}
 use Rattle.gpb.proofs.HeaderLaws.{accepted-3d, accepted}
 use Rattle.gpb.proofs.ReadBack.{point-header-back}
-use Rattle.coords.specs.Walk.{Coordinate, Geometry, geometry, point, ok, mapParsed, zOf, mOf, headerOfType, headerAt, strideOf, ordinateIf, coordinateAt, pointAt, classOf, contentOf, geometryFrom, walkOf, allLevels}
+use Rattle.coords.specs.Walk.{Coordinate, Geometry, geometry, point, ok, mapParsed, zOf, mOf, headerOfType, headerAt, strideOf, ordinateIf, coordinateAt, pointAt, geometryClassOf, contentOf, geometryFrom, walkOf, allLevels}
 use Rattle.coords.specs.Parts.{run, contentRuns, runsOf}
 use Rattle.blob.specs.Blob.{walkOfBlob}
 use Rattle.blob.proofs.LineReadBack.{coordinateOf, found-none}
@@ -36,7 +36,7 @@ pub record ReadsAsPoint (s : List ℕ) (c : Coordinate) : Type 0 where
 
 -- the walk at byte 8, by the bytes that it reads: little-endian, type 1001, three patterns
 walk-by-fields : (levels : ℕ) (s : List ℕ) (x y z : ℕ) → pointBytes ≤ length s → getD s 8 0 ≡ 1 → u32At true s 9 ≡ 1001 → u64At true s 13 ≡ x → u64At true s 21 ≡ y → u64At true s 29 ≡ z → walkOf (suc levels) s 8 ≡ ok (pointGeometry (coordinateOf x y z)) pointBytes
-unfolding walkOf geometryFrom headerAt headerOfType zOf mOf classOf contentOf mapParsed pointAt coordinateAt strideOf ordinateIf
+unfolding walkOf geometryFrom headerAt headerOfType zOf mOf geometryClassOf contentOf mapParsed pointAt coordinateAt strideOf ordinateIf
 walk-by-fields levels s x y z h order type p q r = simp (le-ltb (length s) 13 (omega arith), order, type, le-ltb (length s) pointBytes h, p, q, r)
 
 one-run : (c : Coordinate) → runsOf (pointGeometry c) ≡ run 1 (c ∷ []) ∷ []

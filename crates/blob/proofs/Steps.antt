@@ -18,7 +18,7 @@ use Rattle.coords.specs.declared.Counts.the-variants as counts
 use Rattle.coords.proofs.Refusals.{refused-is-given, accepted-gives-none}
 use Rattle.coords.proofs.Counted.{counted-refused, counted-accepted}
 use Rattle.blob.specs.Blob.{walkOfBlob}
-use Rattle.blob.specs.Inner.{refusalOf, topHeaderOf, headerBy, endOf, operandOf, operandBy, roomBy}
+use Rattle.blob.specs.Inner.{refusalOf, topHeaderOf, headerBy, walkEnd, operandOf, operandBy, roomBy}
 use Rattle.blob.specs.declared.TopHeader.{TopHeader}
 use Rattle.blob.specs.declared.HeaderRead.{HeaderRead}
 use Rattle.blob.specs.declared.HeaderRead.the-variants as header-read
@@ -120,7 +120,7 @@ module _ (s : List ℕ) (side : ℕ) (top : TopHeader) (starts : top ≡ topHead
   walk-refused k q = rw (refused-is-given s (geometryStart s) k (counted-refused (walkOfBlob s) k o walked q))
 
   pub walk-read : (coords runs others end : ℕ) → o ≡ counts.Accepted coords runs others end → operand-read.Read (record { at = top .at; end = end; coords = coords; runs = runs; others = others; srid = top .srid }) ≡ operandBy (firstOf (walkChecks s (geometryStart s))) side s
-  unfolding operandBy endOf
+  unfolding operandBy walkEnd
   walk-read coords runs others end q =
       let c = counted-accepted (walkOfBlob s) coords runs others end o walked q in
       rw (starts, c .coordinates, c .number, c .other, accepted-gives-none s (geometryStart s) (c .tree) end (c .read), c .read)

@@ -35,15 +35,15 @@ headerBy none side s = header-read.Found (topHeaderOf s)
 -- ---- the walk
 
 -- the position after the geometry that was read
-unfoldable pub endOf : Parsed Geometry → ℕ
-endOf (ok g end) = end
-endOf (refused k) = 0
+unfoldable pub walkEnd : Parsed Geometry → ℕ
+walkEnd (ok g end) = end
+walkEnd (refused k) = 0
 
 abbrev pub operandOf : List ℕ → Operand
 operandOf s =
     record {
       at = geometryStart s;
-      end = endOf (walkOfBlob s);
+      end = walkEnd (walkOfBlob s);
       coords = coordinateCount (runsOfBlob s);
       runs = length (runsOfBlob s);
       others = otherCount (runsOfBlob s);

@@ -13,9 +13,9 @@ use Rattle.primitives.specs.declared.Aabb.{Aabb}
 use Rattle.primitives.specs.Boxes.{boxOfPoint, addPoint, leastCorner, greatestCorner, unionOf}
 use Rattle.extremes.proofs.Lists.{Each, each-mapped, each-weaken}
 use Rattle.extremes.proofs.BoxOfAll.{IsBinary64, Axis, EndsFit, Fitting, axis-x, axis-y, axis-z, point-fitting}
-use Rattle.parts.specs.Stored.{pointAt, pointsFrom}
+use Rattle.parts.specs.Stored.{storedPoint, pointsFrom}
 use Rattle.coords.specs.Parts.{segmentsBy}
-use Rattle.items.specs.Items.{Item, point, segment, triangle, pointsOf, segmentsOf, trianglesOf, boxOfItem}
+use Rattle.items.specs.Items.{Item, point, segment, triangle, pointItems, segmentItems, triangleItems, boxOfItem}
 use Rattle.items.specs.Inner.{itemsBy}
 use Rattle.items.specs.declared.Class.{Class}
 use Rattle.items.specs.declared.Class.the-variants.{Points, Segments, Triangles}
@@ -61,7 +61,7 @@ segments-fit item fit (a ∷ []) e = tt
 segments-fit item fit (a ∷ b ∷ ps) e = (fit a b (e .0) (e .1 .0), segments-fit item fit (b ∷ ps) (e .1))
 
 run-fit : (class : Class) (ps : List Point) → Each IsBinary64 ps → Each PointsFit (itemsBy class ps)
-unfolding pointsOf segmentsOf trianglesOf
+unfolding pointItems segmentItems triangleItems
 run-fit Points ps e = each-mapped point PointsFit ps e
 run-fit Segments ps e = segments-fit segment (λ a b f g. (f, g)) ps e
 run-fit Triangles [] e = tt
@@ -73,6 +73,6 @@ run-fitting class ps e = each-weaken PointsFit (λ (i : Item). Fitting (boxOfIte
 
 -- ---- stored points
 pub stored-binary64 : (floats : List Float) → ((j : ℕ) → T (fits binary64 (getD floats j nan))) → (at n : ℕ) → Each IsBinary64 (pointsFrom floats at n)
-unfolding pointsFrom pointAt
+unfolding pointsFrom storedPoint
 stored-binary64 floats f at zero = tt
 stored-binary64 floats f at (suc n) = (record { fit-x = f (floatsPerCoordinate * at); fit-y = f (floatsPerCoordinate * at + 1); fit-z = f (floatsPerCoordinate * at + 2) }, stored-binary64 floats f (at + 1) n)

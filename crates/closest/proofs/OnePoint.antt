@@ -12,10 +12,10 @@ use lib.Ieee.{Float}
 use Rattle.workspace.specs.Workspace.{floatsPerCoordinate}
 use Rattle.coords.specs.Parts.{run}
 use Rattle.primitives.specs.declared.Aabb.{Aabb}
-use Rattle.parts.specs.Stored.{pointAt, pointsFrom, storedRuns, runCount, kindAt, countAt, Laid}
+use Rattle.parts.specs.Stored.{storedPoint, pointsFrom, storedRuns, runCount, kindAt, countAt, Laid}
 use Rattle.parts.proofs.Turns.{runs-next, runs-none, count-next}
 use Rattle.primitives.specs.Boxes.{unionOf}
-use Rattle.items.specs.Items.{Item, point, pointsOf, itemsOfKind, itemsOf, boxOfItem, uniteItem, boxOfItems}
+use Rattle.items.specs.Items.{Item, point, pointItems, itemsOfKind, itemsOf, boxOfItem, uniteItem, boxOfItems}
 use Rattle.extremes.specs.Sweeps.{skipping}
 use Rattle.items.specs.Closest.{withEach, sweepOf, closestWithin, closestOf}
 use Rattle.extremes.specs.ClosestSweep.{noCloser}
@@ -38,13 +38,13 @@ module _ (table : List ℕ) (h : isOnePoint table ≡ true) where
   unfolding isOnePoint
   of-one = eqb-true _ _ (both (eqb (kindAt table 0) 1) _ (both (eqb (runCount table) 1) _ h .1) .1)
 
-  one-stored : (floats : List Float) → storedRuns table floats ≡ run 1 (pointAt floats 0 ∷ []) ∷ []
+  one-stored : (floats : List Float) → storedRuns table floats ≡ run 1 (storedPoint floats 0 ∷ []) ∷ []
   unfolding storedRuns pointsFrom
   one-stored floats = runs-next table 0 (omega (arith, one-run)) floats 0 ∙ rw (of-points, of-one, runs-none floats 1 table 1 (omega (arith, one-run)))
 
   -- its items
-  pub one-item : (floats : List Float) → itemsOf (storedRuns table floats) ≡ point (pointAt floats 0) ∷ []
-  unfolding itemsOf itemsOfKind pointsOf
+  pub one-item : (floats : List Float) → itemsOf (storedRuns table floats) ≡ point (storedPoint floats 0) ∷ []
+  unfolding itemsOf itemsOfKind pointItems
   one-item floats = rw (one-stored floats)
 
   -- there is a float for each ordinate of it

@@ -21,7 +21,7 @@ ghost use Prim.Native.Nat.{ℕ, _+_, _*_, _<_, _≤_};
 ghost use lib.ListN.{length, getD, take};
 ghost use Rattle.primitives.specs.Boxes.{leastSquaredGap};
 ghost use Rattle.workspace.specs.Workspace.{floatsPerCoordinate};
-ghost use Rattle.parts.specs.Stored.{pointAt, pointsFrom, storedRuns, Laid};
+ghost use Rattle.parts.specs.Stored.{storedPoint, pointsFrom, storedRuns, Laid};
 ghost use Rattle.items.specs.Items.{point, itemsOf, boxOfItem};
 ghost use Rattle.measures.specs.InnerOffers.{AllSettled};
 ghost use Rattle.items.specs.InnerRepeats.{firstBefore, firstAfter};
@@ -529,7 +529,7 @@ fn with_class(
 fn from_one_point(stop: bool, floats1: &[f64], floats2: &[f64], table2: &[u32]) -> Best
     requires { ⌜ floatsPerCoordinate * (0 + 1) ≤ length (now floats1) ⌝ }
     requires { ⌜ Laid (now table2) (now floats2) ⌝ }
-    ensures { λ r. ⌜ Keeps r (withEach (point (pointAt (now (floats1 .entry)) 0)) none (itemsOf (storedRuns (now (table2 .entry)) (now (floats2 .entry))))) ⌝ }
+    ensures { λ r. ⌜ Keeps r (withEach (point (storedPoint (now (floats1 .entry)) 0)) none (itemsOf (storedRuns (now (table2 .entry)) (now (floats2 .entry))))) ⌝ }
 {
     let first = extremes::none_yet();
     let a = items::item_at(Class::Points, floats1, 0, 1, 0);

@@ -8,7 +8,7 @@ use native.Mathlib.Numerals.{sub-one}
 use native.Mathlib.Omega.{arith}
 use lib.Dec.{eqb}
 use borrow.Author.Tests.{le-leb, lt-leb, ne-eqb, eqb-false}
-use Rattle.coords.specs.Walk.{refused, mapParsed, Class, pointClass, lineClass, polygonClass, collectionClass, unknownClass, classOf, headerAt, geometryFrom, walkOf}
+use Rattle.coords.specs.Walk.{refused, mapParsed, GeometryClass, pointClass, lineClass, polygonClass, collectionClass, unknownClass, geometryClassOf, headerAt, geometryFrom, walkOf}
 use Rattle.coords.specs.Parts.{runsOf}
 use Rattle.coords.specs.Inner.{walkRuns}
 use Rattle.coords.proofs.Runs.{contentRunsAt, content-runs}
@@ -16,42 +16,42 @@ use Rattle.coords.specs.declared.WkbHeader.{WkbHeader}
 use Rattle.coords.specs.declared.ParsedHeader.{ParsedHeader}
 use Rattle.coords.specs.declared.ParsedHeader.the-variants as header
 
-pub class-point : (k : ℕ) → k ≡ 1 → classOf k ≡ pointClass
-unfolding classOf
+pub class-point : (k : ℕ) → k ≡ 1 → geometryClassOf k ≡ pointClass
+unfolding geometryClassOf
 class-point k e = rw e
 
-pub class-line : (k : ℕ) → k ≡ 2 → classOf k ≡ lineClass
-unfolding classOf
+pub class-line : (k : ℕ) → k ≡ 2 → geometryClassOf k ≡ lineClass
+unfolding geometryClassOf
 class-line k e = rw e
 
-pub class-polygon : (k : ℕ) → (k ≡ 3) ⊎ (k ≡ 17) → classOf k ≡ polygonClass
-unfolding classOf
+pub class-polygon : (k : ℕ) → (k ≡ 3) ⊎ (k ≡ 17) → geometryClassOf k ≡ polygonClass
+unfolding geometryClassOf
 class-polygon k = ⊎-elim (λ e. rw e) (λ e. rw e)
 
-class-low : (k : ℕ) → 4 ≤ k → k < 8 → classOf k ≡ collectionClass
-unfolding classOf
+class-low : (k : ℕ) → 4 ≤ k → k < 8 → geometryClassOf k ≡ collectionClass
+unfolding geometryClassOf
 class-low k h g = simp (ne-eqb k 1 (omega arith), ne-eqb k 2 (omega arith), ne-eqb k 3 (omega arith), ne-eqb k 17 (omega arith), le-leb 4 k h, le-leb k 7 (omega arith))
 
-class-high : (k : ℕ) → 15 ≤ k → k < 17 → classOf k ≡ collectionClass
-unfolding classOf
+class-high : (k : ℕ) → 15 ≤ k → k < 17 → geometryClassOf k ≡ collectionClass
+unfolding geometryClassOf
 class-high k h g = go (eqb k 15) refl
   where
-    go : (b : Bool) → eqb k 15 ≡ b → classOf k ≡ collectionClass
+    go : (b : Bool) → eqb k 15 ≡ b → geometryClassOf k ≡ collectionClass
     go true e = simp (ne-eqb k 1 (omega arith), ne-eqb k 2 (omega arith), ne-eqb k 3 (omega arith), ne-eqb k 17 (omega arith), lt-leb k 7 (omega arith), le-leb 4 k (omega arith), e)
     go false e = let ne = eqb-false k 15 e in let is : k ≡ 16 = omega (arith, ne) in rw is
 
 -- what the match knows at its arm 4..=7 | 15 | 16
-pub class-collection : (k : ℕ) → (k ≡ 1 → ⊥) → (k ≡ 2 → ⊥) → ((k ≡ 3) ⊎ (k ≡ 17) → ⊥) → 1 ≤ k → (k < 8) ⊎ ((15 ≤ k) × (k < 17)) → classOf k ≡ collectionClass
+pub class-collection : (k : ℕ) → (k ≡ 1 → ⊥) → (k ≡ 2 → ⊥) → ((k ≡ 3) ⊎ (k ≡ 17) → ⊥) → 1 ≤ k → (k < 8) ⊎ ((15 ≤ k) × (k < 17)) → geometryClassOf k ≡ collectionClass
 class-collection k n1 n2 n3 h =
     let m3 : k ≡ 3 → ⊥ = λ e. n3 (_⊎_.inl e) in
     ⊎-elim (λ g. class-low k (omega (arith, n1, n2, m3)) g) (λ g. class-high k (g .0) (g .1))
 
-pub class-none : (k : ℕ) → k < 1 → classOf k ≡ unknownClass
-unfolding classOf
+pub class-none : (k : ℕ) → k < 1 → geometryClassOf k ≡ unknownClass
+unfolding geometryClassOf
 class-none k h = let e : k ≡ 0 = omega arith in rw e
 
-pub class-above : (k : ℕ) → 8 ≤ k → (k ≡ 15 → ⊥) → (k ≡ 16 → ⊥) → (k ≡ 17 → ⊥) → classOf k ≡ unknownClass
-unfolding classOf
+pub class-above : (k : ℕ) → 8 ≤ k → (k ≡ 15 → ⊥) → (k ≡ 16 → ⊥) → (k ≡ 17 → ⊥) → geometryClassOf k ≡ unknownClass
+unfolding geometryClassOf
 class-above k h n15 n16 n17 =
     simp (ne-eqb k 1 (omega arith), ne-eqb k 2 (omega arith), ne-eqb k 3 (omega arith), ne-eqb k 17 n17, le-leb 4 k (omega arith), lt-leb k 7 h, ne-eqb k 15 n15, ne-eqb k 16 n16)
 
@@ -65,8 +65,8 @@ unfolding geometryFrom mapParsed
 geometry-refused levels s at k o h p q =
     ap (mapParsed runsOf) (walk-step levels s at h ∙ ap (geometryFrom (walkOf (levels - 1) s) s) (sym p ∙ q))
 
-pub geometry-is : (levels : ℕ) (s : List ℕ) (at : ℕ) (h : WkbHeader) (c : Class) (o : ParsedHeader) → (levels ≡ 0 → ⊥) → o ≡ headerAt s at → o ≡ header.Read h → classOf (h .kind) ≡ c → walkRuns levels s at ≡ contentRunsAt c (levels - 1) s h
+pub geometry-is : (levels : ℕ) (s : List ℕ) (at : ℕ) (h : WkbHeader) (c : GeometryClass) (o : ParsedHeader) → (levels ≡ 0 → ⊥) → o ≡ headerAt s at → o ≡ header.Read h → geometryClassOf (h .kind) ≡ c → walkRuns levels s at ≡ contentRunsAt c (levels - 1) s h
 unfolding geometryFrom
 geometry-is levels s at h c o l p q e =
     ap (mapParsed runsOf) (walk-step levels s at l ∙ ap (geometryFrom (walkOf (levels - 1) s) s) (sym p ∙ q))
-    ∙ (content-runs (classOf (h .kind)) (levels - 1) s h ∙ ap (λ (x : Class). contentRunsAt x (levels - 1) s h) e)
+    ∙ (content-runs (geometryClassOf (h .kind)) (levels - 1) s h ∙ ap (λ (x : GeometryClass). contentRunsAt x (levels - 1) s h) e)

@@ -12,7 +12,7 @@ use Rattle.fields.specs.Fields.{u32At}
 use Rattle.coords.specs.declared.WkbHeader.{WkbHeader}
 use Rattle.coords.specs.declared.ParsedHeader.{ParsedHeader}
 use Rattle.coords.specs.declared.ParsedHeader.the-variants as header
-use Rattle.coords.specs.Walk.{Coordinate, Geometry, Parsed, ok, refused, mapParsed, stride, coordinatesFrom, andThen, consParsed, times, listAt, Class, pointClass, lineClass, polygonClass, collectionClass, unknownClass, classOf, headerAt, geometryFrom, walkOf}
+use Rattle.coords.specs.Walk.{Coordinate, Geometry, Parsed, ok, refused, mapParsed, stride, coordinatesFrom, andThen, consParsed, times, listAt, GeometryClass, pointClass, lineClass, polygonClass, collectionClass, unknownClass, geometryClassOf, headerAt, geometryFrom, walkOf}
 use Rattle.coords.specs.Parts.{Run, run, nonEmptyRun, runsOf}
 use Rattle.coords.specs.Inner.{ParsedRuns, coordinatesRuns, lineRuns, walkRuns}
 use Rattle.coords.proofs.Each.{Each, each-append}
@@ -23,15 +23,15 @@ abbrev pub RunKind : ℕ → Type 0
 RunKind k = (k ≡ 1) ⊎ ((k ≡ 2) ⊎ ((k ≡ 3) ⊎ (k ≡ 17)))
 
 -- what a class says of the kind
-KindOf : Class → ℕ → Type 0
+KindOf : GeometryClass → ℕ → Type 0
 KindOf pointClass k = RunKind k
 KindOf lineClass k = RunKind k
 KindOf polygonClass k = RunKind k
 KindOf collectionClass k = Unit
 KindOf unknownClass k = Unit
 
-class-kind : (k : ℕ) → KindOf (classOf k) k
-unfolding classOf KindOf
+class-kind : (k : ℕ) → KindOf (geometryClassOf k) k
+unfolding geometryClassOf KindOf
 class-kind k = go (eqb k 1) (eqb k 2) (eqb k 3) (eqb k 17) ((leb 4 k && leb k 7) || (eqb k 15 || eqb k 16)) refl refl refl refl
   where
     go : (a b c d e : Bool) → eqb k 1 ≡ a → eqb k 2 ≡ b → eqb k 3 ≡ c → eqb k 17 ≡ d → KindOf (cond a pointClass (cond b lineClass (cond (c || d) polygonClass (cond e collectionClass unknownClass)))) k
@@ -86,7 +86,7 @@ module _ (s : List ℕ) (P : Run Coordinate → Type 0) (one : (h : WkbHeader) (
     unfolding listAt
     all-list little at = all-needed (ltb (length s) (at + 4)) (times _++_ [] f (u32At little s at) (at + 4)) (λ e. all-times (u32At little s at) (at + 4))
 
-  all-content : (c : Class) (levels : ℕ) (each : (at : ℕ) → AllRead (walkRuns levels s at)) (h : WkbHeader) → KindOf c (h .kind) → AllRead (contentRunsAt c levels s h)
+  all-content : (c : GeometryClass) (levels : ℕ) (each : (at : ℕ) → AllRead (walkRuns levels s at)) (h : WkbHeader) → KindOf c (h .kind) → AllRead (contentRunsAt c levels s h)
   unfolding contentRunsAt AllRead KindOf
   all-content pointClass levels each h k = all-coordinates h k 1 (h .body)
   all-content lineClass levels each h k = all-line h k (h .body)
@@ -97,7 +97,7 @@ module _ (s : List ℕ) (P : Run Coordinate → Type 0) (one : (h : WkbHeader) (
   all-from : (levels : ℕ) (each : (at : ℕ) → AllRead (walkRuns levels s at)) (r : ParsedHeader) → AllRead (mapParsed runsOf (geometryFrom (walkOf levels s) s r))
   unfolding geometryFrom AllRead mapParsed
   all-from levels each (header.Refused k) = tt
-  all-from levels each (header.Read h) = subst AllRead (sym (content-runs (classOf (h .kind)) levels s h)) (all-content (classOf (h .kind)) levels each h (class-kind (h .kind)))
+  all-from levels each (header.Read h) = subst AllRead (sym (content-runs (geometryClassOf (h .kind)) levels s h)) (all-content (geometryClassOf (h .kind)) levels each h (class-kind (h .kind)))
 
   all-walk : (levels at : ℕ) → AllRead (walkRuns levels s at)
   unfolding walkOf AllRead mapParsed

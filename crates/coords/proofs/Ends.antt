@@ -13,7 +13,7 @@ use Rattle.coords.specs.declared.WkbHeader.{WkbHeader}
 use Rattle.coords.specs.declared.ParsedHeader.{ParsedHeader}
 use Rattle.coords.specs.declared.ParsedHeader.the-variants as header
 use Rattle.fields.specs.TypeCode.{hasFlag, sridFlag}
-use Rattle.coords.specs.Walk.{Geometry, geometry, Content, point, line, rings, members, noMembers, oneMore, Parsed, ok, refused, mapParsed, stride, coordinateAt, coordinatesFrom, pointAt, coordinatesAt, lineAt, consParsed, andThen, times, listAt, ringsAt, membersAt, Class, pointClass, lineClass, polygonClass, collectionClass, unknownClass, classOf, contentOf, headerOf, headerOfType, headerAt, geometryFrom, walkOf}
+use Rattle.coords.specs.Walk.{Geometry, geometry, Content, point, line, rings, members, noMembers, oneMore, Parsed, ok, refused, mapParsed, stride, coordinateAt, coordinatesFrom, pointAt, coordinatesAt, lineAt, consParsed, andThen, times, listAt, ringsAt, membersAt, GeometryClass, pointClass, lineClass, polygonClass, collectionClass, unknownClass, geometryClassOf, contentOf, wkbHeader, headerOfType, headerAt, geometryFrom, walkOf}
 
 -- a header has at least five bytes
 unfoldable pub AfterFive : ℕ → ParsedHeader → Type 0
@@ -33,7 +33,7 @@ unfolding headerAt headerOfType
 header-after s p =
     let little = eqb (getD s p 0) 1 in
     let code = u32At little s (p + 1) in
-    after-tests (ltb (length s) (p + 5)) (ltb 1 (getD s p 0)) (hasFlag sridFlag code) (ltb (length s) (p + 9)) p (headerOf little code (p + 9)) (headerOf little code (p + 5)) (omega arith) (omega arith)
+    after-tests (ltb (length s) (p + 5)) (ltb 1 (getD s p 0)) (hasFlag sridFlag code) (ltb (length s) (p + 9)) p (wkbHeader little code (p + 9)) (wkbHeader little code (p + 5)) (omega arith) (omega arith)
 
 module _ (s : List ℕ) where
   -- what was read from p on ends in the blob
@@ -104,7 +104,7 @@ module _ (s : List ℕ) where
       go true e = tt
       go false e = (omega (arith, wide (h .z) (h .m)), ltb-false (length s) (p + stride h) e)
 
-  content-after : (k : Class) (f : ℕ → Parsed Geometry) (each : (q : ℕ) → Within q (f q)) (h : WkbHeader) → Within (h .body + 4) (contentOf k f s h)
+  content-after : (k : GeometryClass) (f : ℕ → Parsed Geometry) (each : (q : ℕ) → Within q (f q)) (h : WkbHeader) → Within (h .body + 4) (contentOf k f s h)
   unfolding contentOf Within
   content-after pointClass f each h = map-within point (h .body + 4) (pointAt h s (h .body)) (point-after h (h .body))
   content-after lineClass f each h = map-within line (h .body + 4) (lineAt h s (h .body)) (line-after h (h .body))
@@ -120,7 +120,7 @@ module _ (s : List ℕ) where
   geometry-ends : (f : ℕ → Parsed Geometry) (each : (q : ℕ) → Within q (f q)) (p : ℕ) (r : ParsedHeader) → AfterFive p r → Ends p (geometryFrom f s r)
   unfolding geometryFrom Ends AfterFive Within mapParsed
   geometry-ends f each p (header.Refused k) i = tt
-  geometry-ends f each p (header.Read h) i = go (contentOf (classOf (h .kind)) f s h) (content-after (classOf (h .kind)) f each h)
+  geometry-ends f each p (header.Read h) i = go (contentOf (geometryClassOf (h .kind)) f s h) (content-after (geometryClassOf (h .kind)) f each h)
     where
       go : (r : Parsed Content) → Within (h .body + 4) r → Ends p (mapParsed (geometry (h .kind) (h .z) (h .m)) r)
       go (ok x end) j = (omega (arith, i, j .0), j .1)

@@ -7,7 +7,7 @@ use native.Mathlib.Omega.{arith}
 use lib.Dec.{ltb}
 use lib.ListN.{length}
 use Rattle.fields.specs.Fields.{u32At}
-use Rattle.coords.specs.Walk.{Coordinate, Geometry, Parsed, ok, refused, mapParsed, andThen, strideOf, stride, times, listAt, Class, pointClass, lineClass, polygonClass, collectionClass, unknownClass, classOf, headerAt, geometryFrom, walkOf}
+use Rattle.coords.specs.Walk.{Coordinate, Geometry, Parsed, ok, refused, mapParsed, andThen, strideOf, stride, times, listAt, GeometryClass, pointClass, lineClass, polygonClass, collectionClass, unknownClass, geometryClassOf, headerAt, geometryFrom, walkOf}
 use Rattle.coords.specs.Parts.{Run, coordinateCount, runsOf, walkedRuns, run, isPoint, isFace, otherCount}
 use Rattle.coords.specs.Inner.{ParsedRuns, coordinatesRuns, lineRuns, walkRuns}
 use Rattle.coords.proofs.Ends.{AfterFive, header-after, walk-end}
@@ -77,7 +77,7 @@ module _ (f : ℕ → ParsedRuns) (each : (at : ℕ) → Inside at (runCounts (f
   unfolding listAt
   inside-list little s at = after-count (ltb (length s) (at + 4)) at (times _++_ [] f (u32At little s at) (at + 4)) (inside-times (u32At little s at) (at + 4))
 
-inside-content : (c : Class) (levels : ℕ) (s : List ℕ) (each : (at : ℕ) → Inside at (runCounts (walkRuns levels s at))) (h : WkbHeader) → Inside (h .body) (runCounts (contentRunsAt c levels s h))
+inside-content : (c : GeometryClass) (levels : ℕ) (s : List ℕ) (each : (at : ℕ) → Inside at (runCounts (walkRuns levels s at))) (h : WkbHeader) → Inside (h .body) (runCounts (contentRunsAt c levels s h))
 unfolding contentRunsAt runCounts
 inside-content pointClass levels s each h = inside-run h s 1 (h .body)
 inside-content lineClass levels s each h = inside-line h s (h .body)
@@ -92,7 +92,7 @@ unfolding geometryFrom runCounts AfterFive mapParsed
 inside-from at levels s each (header.Refused k) p = tt
 inside-from at levels s each (header.Read h) p =
     later at (h .body) (runCounts (mapParsed runsOf (geometryFrom (walkOf levels s) s (header.Read h)))) (omega (arith, p))
-    (subst (λ (w : ParsedRuns). Inside (h .body) (runCounts w)) (sym (content-runs (classOf (h .kind)) levels s h)) (inside-content (classOf (h .kind)) levels s each h))
+    (subst (λ (w : ParsedRuns). Inside (h .body) (runCounts w)) (sym (content-runs (geometryClassOf (h .kind)) levels s h)) (inside-content (geometryClassOf (h .kind)) levels s each h))
 
 pub inside-walk : (levels : ℕ) (s : List ℕ) (at : ℕ) → Inside at (runCounts (walkRuns levels s at))
 unfolding walkOf runCounts mapParsed

@@ -11,7 +11,7 @@ use Rattle.fields.specs.Fields.{u32At}
 use Rattle.coords.specs.declared.WkbHeader.{WkbHeader}
 use Rattle.coords.specs.declared.ParsedHeader.{ParsedHeader}
 use Rattle.coords.specs.declared.ParsedHeader.the-variants as header
-use Rattle.coords.specs.Walk.{Geometry, geometry, Content, point, line, rings, members, Members, noMembers, oneMore, Parsed, ok, refused, mapParsed, consParsed, andThen, times, listAt, pointAt, lineAt, ringsAt, membersAt, Class, pointClass, lineClass, polygonClass, collectionClass, unknownClass, classOf, contentOf, headerAt, geometryFrom, walkOf}
+use Rattle.coords.specs.Walk.{Geometry, geometry, Content, point, line, rings, members, Members, noMembers, oneMore, Parsed, ok, refused, mapParsed, consParsed, andThen, times, listAt, pointAt, lineAt, ringsAt, membersAt, GeometryClass, pointClass, lineClass, polygonClass, collectionClass, unknownClass, geometryClassOf, contentOf, headerAt, geometryFrom, walkOf}
 
 unfoldable mutual
   -- the deepest level below a geometry, itself at level 0
@@ -70,7 +70,7 @@ unfolding AtMost mapParsed
 flat-content n c e (ok a end) = omega (arith, e a)
 flat-content n c e (refused k) = tt
 
-content-at-most : (k : Class) (f : ℕ → Parsed Geometry) (n : ℕ) (each : (at : ℕ) → AtMost geometryLevel n (f at)) (s : List ℕ) (h : WkbHeader) → AtMost contentLevel n (contentOf k f s h)
+content-at-most : (k : GeometryClass) (f : ℕ → Parsed Geometry) (n : ℕ) (each : (at : ℕ) → AtMost geometryLevel n (f at)) (s : List ℕ) (h : WkbHeader) → AtMost contentLevel n (contentOf k f s h)
 unfolding contentOf AtMost contentLevel listAt
 content-at-most pointClass f n each s h = flat-content n point (λ a. refl) (pointAt h s (h .body))
 content-at-most lineClass f n each s h = flat-content n line (λ a. refl) (lineAt h s (h .body))
@@ -84,7 +84,7 @@ geometry-at-most : (f : ℕ → Parsed Geometry) (n : ℕ) (each : (at : ℕ) �
 unfolding geometryFrom AtMost geometryLevel deepestLevel
 geometry-at-most f n each s (header.Refused k) = tt
 geometry-at-most f n each s (header.Read h) =
-    at-most-map contentLevel geometryLevel n (suc n) (geometry (h .kind) (h .z) (h .m)) (λ a i. omega arith) (contentOf (classOf (h .kind)) f s h) (content-at-most (classOf (h .kind)) f n each s h)
+    at-most-map contentLevel geometryLevel n (suc n) (geometry (h .kind) (h .z) (h .m)) (λ a i. omega arith) (contentOf (geometryClassOf (h .kind)) f s h) (content-at-most (geometryClassOf (h .kind)) f n each s h)
 
 walk-at-most : (levels : ℕ) (s : List ℕ) (at : ℕ) → AtMost geometryLevel levels (walkOf levels s at)
 unfolding walkOf AtMost
@@ -128,7 +128,7 @@ unfolding Reads
 reads-same level n (ok a end) = λ l. refl
 reads-same level n (refused k) = tt
 
-content-reads : (k : Class) (f f′ : ℕ → Parsed Geometry) (n : ℕ) (each : (at : ℕ) → Reads geometryLevel n (f at) (f′ at)) (s : List ℕ) (h : WkbHeader) → Reads contentLevel n (contentOf k f s h) (contentOf k f′ s h)
+content-reads : (k : GeometryClass) (f f′ : ℕ → Parsed Geometry) (n : ℕ) (each : (at : ℕ) → Reads geometryLevel n (f at) (f′ at)) (s : List ℕ) (h : WkbHeader) → Reads contentLevel n (contentOf k f s h) (contentOf k f′ s h)
 unfolding contentOf contentLevel listAt
 content-reads pointClass f f′ n each s h = reads-same contentLevel n (mapParsed point (pointAt h s (h .body)))
 content-reads lineClass f f′ n each s h = reads-same contentLevel n (mapParsed line (lineAt h s (h .body)))
@@ -142,7 +142,7 @@ geometry-reads : (f f′ : ℕ → Parsed Geometry) (n : ℕ) (each : (at : ℕ)
 unfolding geometryFrom geometryLevel deepestLevel Reads
 geometry-reads f f′ n each s (header.Refused k) = tt
 geometry-reads f f′ n each s (header.Read h) =
-    reads-map contentLevel geometryLevel n (suc n) (geometry (h .kind) (h .z) (h .m)) (λ a i. omega arith) (contentOf (classOf (h .kind)) f s h) (contentOf (classOf (h .kind)) f′ s h) (content-reads (classOf (h .kind)) f f′ n each s h)
+    reads-map contentLevel geometryLevel n (suc n) (geometry (h .kind) (h .z) (h .m)) (λ a i. omega arith) (contentOf (geometryClassOf (h .kind)) f s h) (contentOf (geometryClassOf (h .kind)) f′ s h) (content-reads (geometryClassOf (h .kind)) f f′ n each s h)
 
 no-level : (r w : Parsed Geometry) → Reads geometryLevel 0 r w
 unfolding Reads geometryLevel

@@ -14,7 +14,7 @@ use Rattle.coords.specs.declared.WkbHeader.{WkbHeader}
 use Rattle.coords.specs.declared.ParsedHeader.{ParsedHeader}
 use Rattle.coords.specs.declared.ParsedHeader.the-variants as header
 use Rattle.fields.specs.TypeCode.{hasFlag, sridFlag}
-use Rattle.coords.specs.Walk.{Coordinate, Geometry, geometry, Content, point, line, rings, members, noMembers, oneMore, Parsed, ok, refused, mapParsed, strideOf, stride, ordinateIf, mOffset, coordinateAt, coordinatesFrom, pointAt, coordinatesAt, lineAt, consParsed, andThen, times, listAt, ringsAt, membersAt, Class, pointClass, lineClass, polygonClass, collectionClass, unknownClass, classOf, contentOf, headerOf, headerOfType, headerAt, geometryFrom, walkOf}
+use Rattle.coords.specs.Walk.{Coordinate, Geometry, geometry, Content, point, line, rings, members, noMembers, oneMore, Parsed, ok, refused, mapParsed, strideOf, stride, ordinateIf, mOffset, coordinateAt, coordinatesFrom, pointAt, coordinatesAt, lineAt, consParsed, andThen, times, listAt, ringsAt, membersAt, GeometryClass, pointClass, lineClass, polygonClass, collectionClass, unknownClass, geometryClassOf, contentOf, wkbHeader, headerOfType, headerAt, geometryFrom, walkOf}
 
 -- n bytes at a of s stand at a′ of s′ too
 module _ (s s′ : List ℕ) (a a′ n : ℕ) (same : (i : ℕ) → i < n → getD s (a + i) 0 ≡ getD s′ (a′ + i) 0) (room : a′ + n ≤ length s′) where
@@ -149,7 +149,7 @@ module _ (s s′ : List ℕ) (a a′ n : ℕ) (same : (i : ℕ) → i < n → ge
   map-carries c p (ok x end) w i = (i .0, λ l. ap (mapParsed c) (i .1 l))
   map-carries c p (refused k) w i = tt
 
-  content-carries : (k : Class) (f f′ : ℕ → Parsed Geometry) (each : (q : ℕ) → a ≤ q → Carries q (f q) (f′ (there q))) (h : WkbHeader) → a ≤ h .body → Carries (h .body) (contentOf k f s h) (contentOf k f′ s′ (moved h))
+  content-carries : (k : GeometryClass) (f f′ : ℕ → Parsed Geometry) (each : (q : ℕ) → a ≤ q → Carries q (f q) (f′ (there q))) (h : WkbHeader) → a ≤ h .body → Carries (h .body) (contentOf k f s h) (contentOf k f′ s′ (moved h))
   unfolding contentOf Carries
   content-carries pointClass f f′ each h g = map-carries point (h .body) (pointAt h s (h .body)) (pointAt (moved h) s′ (there (h .body))) (point-carries h (h .body) g)
   content-carries lineClass f f′ each h g = map-carries line (h .body) (lineAt h s (h .body)) (lineAt (moved h) s′ (there (h .body))) (line-carries h (h .body) g)
@@ -178,7 +178,7 @@ module _ (s s′ : List ℕ) (a a′ n : ℕ) (same : (i : ℕ) → i < n → ge
       code : ℕ
       code = u32At (eqb (getD s p 0) 1) s (p + 1)
 
-      go : (b c d e : Bool) → ltb 1 (getD s p 0) ≡ c → hasFlag sridFlag (u32At (eqb (getD s p 0) 1) s (p + 1)) ≡ d → HeaderCarries p (cond b (header.Refused 9) (cond c (header.Refused 10) (cond d (cond e (header.Refused 9) (header.Read (headerOf (eqb (getD s p 0) 1) (u32At (eqb (getD s p 0) 1) s (p + 1)) (p + 9)))) (header.Read (headerOf (eqb (getD s p 0) 1) (u32At (eqb (getD s p 0) 1) s (p + 1)) (p + 5)))))) (headerAt s′ (there p))
+      go : (b c d e : Bool) → ltb 1 (getD s p 0) ≡ c → hasFlag sridFlag (u32At (eqb (getD s p 0) 1) s (p + 1)) ≡ d → HeaderCarries p (cond b (header.Refused 9) (cond c (header.Refused 10) (cond d (cond e (header.Refused 9) (header.Read (wkbHeader (eqb (getD s p 0) 1) (u32At (eqb (getD s p 0) 1) s (p + 1)) (p + 9)))) (header.Read (wkbHeader (eqb (getD s p 0) 1) (u32At (eqb (getD s p 0) 1) s (p + 1)) (p + 5)))))) (headerAt s′ (there p))
       go true c d e p2 p3 = tt
       go false true d e p2 p3 = tt
       go false false true true p2 p3 = tt
@@ -188,9 +188,9 @@ module _ (s s′ : List ℕ) (a a′ n : ℕ) (same : (i : ℕ) → i < n → ge
   geometry-carries : (f f′ : ℕ → Parsed Geometry) (each : (q : ℕ) → a ≤ q → Carries q (f q) (f′ (there q))) (p : ℕ) (r w : ParsedHeader) → a ≤ p → HeaderCarries p r w → Carries p (geometryFrom f s r) (geometryFrom f′ s′ w)
   unfolding geometryFrom Carries HeaderCarries mapParsed
   geometry-carries f f′ each p (header.Refused k) w h i = tt
-  geometry-carries f f′ each p (header.Read g) w h i = go (contentOf (classOf (g .kind)) f s g) (content-carries (classOf (g .kind)) f f′ each g (omega (arith, i .0, h)))
+  geometry-carries f f′ each p (header.Read g) w h i = go (contentOf (geometryClassOf (g .kind)) f s g) (content-carries (geometryClassOf (g .kind)) f f′ each g (omega (arith, i .0, h)))
     where
-      go : (r : Parsed Content) → Carries (g .body) r (contentOf (classOf (g .kind)) f′ s′ (moved g)) → Carries p (mapParsed (geometry (g .kind) (g .z) (g .m)) r) (geometryFrom f′ s′ w)
+      go : (r : Parsed Content) → Carries (g .body) r (contentOf (geometryClassOf (g .kind)) f′ s′ (moved g)) → Carries p (mapParsed (geometry (g .kind) (g .z) (g .m)) r) (geometryFrom f′ s′ w)
       go (refused k) j = tt
       go (ok x end) j =
           (omega (arith, i .0, j .0), λ l. ap (geometryFrom f′ s′) (i .1 (omega (arith, j .0, l))) ∙ ap (mapParsed (geometry (g .kind) (g .z) (g .m))) (j .1 l))

@@ -15,7 +15,7 @@ use Rattle.coords.specs.declared.WkbHeader.{WkbHeader}
 use Rattle.coords.specs.declared.ParsedHeader.{ParsedHeader}
 use Rattle.coords.specs.declared.ParsedHeader.the-variants as header
 use Rattle.fields.specs.TypeCode.{hasFlag, sridFlag}
-use Rattle.coords.specs.Walk.{Geometry, geometry, point, line, rings, members, noMembers, oneMore, Parsed, ok, refused, mapParsed, consParsed, andThen, times, listAt, stride, coordinateAt, coordinatesFrom, pointAt, coordinatesAt, lineAt, ringsAt, membersAt, Class, pointClass, lineClass, polygonClass, collectionClass, unknownClass, classOf, contentOf, headerOf, headerOfType, headerAt, geometryFrom, walkOf, allLevels}
+use Rattle.coords.specs.Walk.{Geometry, geometry, point, line, rings, members, noMembers, oneMore, Parsed, ok, refused, mapParsed, consParsed, andThen, times, listAt, stride, coordinateAt, coordinatesFrom, pointAt, coordinatesAt, lineAt, ringsAt, membersAt, GeometryClass, pointClass, lineClass, polygonClass, collectionClass, unknownClass, geometryClassOf, contentOf, wkbHeader, headerOfType, headerAt, geometryFrom, walkOf, allLevels}
 use Rattle.coords.specs.Refusals.{refusedWith, isAccepted, walkChecks}
 
 -- what holds of the number of every refusal
@@ -88,7 +88,7 @@ module _ (P : ℕ → Type 0) (nine : P 9) where
   numbered-header ten s at =
       let little = eqb (getD s at 0) 1 in
       let code = u32At little s (at + 1) in
-      header-tests ten (ltb (length s) (at + 5)) (ltb 1 (getD s at 0)) (hasFlag sridFlag code) (ltb (length s) (at + 9)) (headerOf little code (at + 9)) (headerOf little code (at + 5))
+      header-tests ten (ltb (length s) (at + 5)) (ltb 1 (getD s at 0)) (hasFlag sridFlag code) (ltb (length s) (at + 9)) (wkbHeader little code (at + 9)) (wkbHeader little code (at + 5))
 
 -- a refusal of the walk is one of 9 to 12
 abbrev pub WalkNumber : ℕ → Type 0
@@ -97,7 +97,7 @@ WalkNumber k = (9 ≤ k) × (k ≤ 12)
 nine : WalkNumber 9
 nine = (omega arith, omega arith)
 
-numbered-content : (c : Class) (f : ℕ → Parsed Geometry) (each : (at : ℕ) → Numbered WalkNumber (f at)) (s : List ℕ) (h : WkbHeader) → Numbered WalkNumber (contentOf c f s h)
+numbered-content : (c : GeometryClass) (f : ℕ → Parsed Geometry) (each : (at : ℕ) → Numbered WalkNumber (f at)) (s : List ℕ) (h : WkbHeader) → Numbered WalkNumber (contentOf c f s h)
 unfolding contentOf Numbered
 numbered-content pointClass f each s h = numbered-map WalkNumber point (pointAt h s (h .body)) (numbered-point WalkNumber nine h s (h .body))
 numbered-content lineClass f each s h = numbered-map WalkNumber line (lineAt h s (h .body)) (numbered-line WalkNumber nine h s (h .body))
@@ -108,7 +108,7 @@ numbered-content unknownClass f each s h = (omega arith, omega arith)
 numbered-geometry : (f : ℕ → Parsed Geometry) (each : (at : ℕ) → Numbered WalkNumber (f at)) (s : List ℕ) (r : ParsedHeader) → HeaderNumbered WalkNumber r → Numbered WalkNumber (geometryFrom f s r)
 unfolding geometryFrom HeaderNumbered Numbered
 numbered-geometry f each s (header.Refused k) h = h
-numbered-geometry f each s (header.Read g) h = numbered-map WalkNumber (geometry (g .kind) (g .z) (g .m)) (contentOf (classOf (g .kind)) f s g) (numbered-content (classOf (g .kind)) f each s g)
+numbered-geometry f each s (header.Read g) h = numbered-map WalkNumber (geometry (g .kind) (g .z) (g .m)) (contentOf (geometryClassOf (g .kind)) f s g) (numbered-content (geometryClassOf (g .kind)) f each s g)
 
 numbered-walk : (levels : ℕ) (s : List ℕ) (at : ℕ) → Numbered WalkNumber (walkOf levels s at)
 unfolding walkOf Numbered

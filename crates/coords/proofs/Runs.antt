@@ -8,7 +8,7 @@ use lib.Dec.{ltb}
 use lib.ListN.{length}
 use Rattle.fields.specs.Fields.{u32At}
 use Rattle.coords.specs.declared.WkbHeader.{WkbHeader}
-use Rattle.coords.specs.Walk.{Coordinate, geometry, Content, point, line, rings, members, noMembers, oneMore, Parsed, ok, refused, mapParsed, stride, coordinateAt, coordinatesFrom, pointAt, coordinatesAt, lineAt, consParsed, andThen, times, listAt, ringsAt, membersAt, Class, pointClass, lineClass, polygonClass, collectionClass, unknownClass, contentOf, walkOf}
+use Rattle.coords.specs.Walk.{Coordinate, geometry, Content, point, line, rings, members, noMembers, oneMore, Parsed, ok, refused, mapParsed, stride, coordinateAt, coordinatesFrom, pointAt, coordinatesAt, lineAt, consParsed, andThen, times, listAt, ringsAt, membersAt, GeometryClass, pointClass, lineClass, polygonClass, collectionClass, unknownClass, contentOf, walkOf}
 use Rattle.coords.specs.Parts.{Run, run, nonEmptyRun, ringsRuns, runsOf, contentRuns, membersRuns}
 use Rattle.coords.specs.Inner.{ParsedRuns, coordinatesRuns, lineRuns, ringsAtRuns, membersAtRuns, walkRuns}
 
@@ -55,7 +55,7 @@ unfolding coordinatesAt mapParsed
 coordinates-runs h s n at = map-needed (nonEmptyRun (h .kind)) (ltb (length s) (at + n * stride h)) (ok (coordinatesFrom h s n at) (at + n * stride h))
 
 -- the runs of what follows a header
-unfoldable pub contentRunsAt : Class → ℕ → List ℕ → WkbHeader → ParsedRuns
+unfoldable pub contentRunsAt : GeometryClass → ℕ → List ℕ → WkbHeader → ParsedRuns
 contentRunsAt pointClass levels s h = coordinatesRuns h s 1 (h .body)
 contentRunsAt lineClass levels s h = lineRuns h s (h .body)
 contentRunsAt polygonClass levels s h = ringsAtRuns h s (h .body)
@@ -74,7 +74,7 @@ point-run h s at =
     let e : stride h ≡ 1 * stride h = omega arith in
     map-needed (λ (c : Coordinate). run (h .kind) (c ∷ []) ∷ []) (ltb (length s) (at + stride h)) (ok (coordinateAt h s at) (at + stride h)) ∙ (ap (λ (n : ℕ). cond (ltb (length s) (at + n)) (refused 9) (ok (run (h .kind) (coordinateAt h s at ∷ []) ∷ []) (at + n))) e ∙ sym (coordinates-runs h s 1 at))
 
-pub content-runs : (c : Class) (levels : ℕ) (s : List ℕ) (h : WkbHeader) → mapParsed runsOf (mapParsed (geometry (h .kind) (h .z) (h .m)) (contentOf c (walkOf levels s) s h)) ≡ contentRunsAt c levels s h
+pub content-runs : (c : GeometryClass) (levels : ℕ) (s : List ℕ) (h : WkbHeader) → mapParsed runsOf (mapParsed (geometry (h .kind) (h .z) (h .m)) (contentOf c (walkOf levels s) s h)) ≡ contentRunsAt c levels s h
 unfolding contentOf contentRunsAt contentRuns mapParsed
 content-runs pointClass levels s h = map-geometry (h .kind) (h .z) (h .m) point (λ (c : Coordinate). run (h .kind) (c ∷ []) ∷ []) (λ c. refl) (pointAt h s (h .body)) ∙ point-run h s (h .body)
 content-runs lineClass levels s h = map-geometry (h .kind) (h .z) (h .m) line (nonEmptyRun (h .kind)) (λ c. refl) (lineAt h s (h .body))

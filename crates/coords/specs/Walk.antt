@@ -69,15 +69,15 @@ mOf code =
     (hasFlag mFlag code)))
 
 -- byte order, type, and where the content starts
-abbrev pub headerOf : Bool → ℕ → ℕ → WkbHeader
-headerOf little code body = record { little = little; z = zOf code; m = mOf code; kind = kindOf code; body = body }
+abbrev pub wkbHeader : Bool → ℕ → ℕ → WkbHeader
+wkbHeader little code body = record { little = little; z = zOf code; m = mOf code; kind = kindOf code; body = body }
 
 -- the type is read; 4 SRID bytes follow it if flag 20000000 is set: refusal 9 where they are missing
 unfoldable pub headerOfType : List ℕ → Bool → ℕ → ℕ → ParsedHeader
 headerOfType s little code at =
     cond (hasFlag sridFlag code)
-    (cond (ltb (length s) (at + 9)) (header.Refused 9) (header.Read (headerOf little code (at + 9))))
-    (header.Read (headerOf little code (at + 5)))
+    (cond (ltb (length s) (at + 9)) (header.Refused 9) (header.Read (wkbHeader little code (at + 9))))
+    (header.Read (wkbHeader little code (at + 5)))
 
 -- byte order (0 big, 1 little), type and SRID at a position: refusals 9 and 10
 unfoldable pub headerAt : List ℕ → ℕ → ParsedHeader
@@ -167,19 +167,19 @@ membersAt f little s at = listAt oneMore noMembers f little s at
 -- ---- geometries
 
 -- what a geometry of some kind holds
-pub data Class : Type 0 where
-  pointClass lineClass polygonClass collectionClass unknownClass : Class
+pub data GeometryClass : Type 0 where
+  pointClass lineClass polygonClass collectionClass unknownClass : GeometryClass
 
 -- 1 point, 2 line, 3 polygon, 17 triangle, 4 to 7, 15 and 16 collections, nothing else
-unfoldable pub classOf : ℕ → Class
-classOf k =
+unfoldable pub geometryClassOf : ℕ → GeometryClass
+geometryClassOf k =
     cond (eqb k 1) pointClass
     (cond (eqb k 2) lineClass
     (cond (eqb k 3 || eqb k 17) polygonClass
     (cond ((leb 4 k && leb k 7) || (eqb k 15 || eqb k 16)) collectionClass unknownClass)))
 
 -- what follows a header: refusal 11 for an unknown kind; f reads a member
-unfoldable pub contentOf : Class → (ℕ → Parsed Geometry) → List ℕ → WkbHeader → Parsed Content
+unfoldable pub contentOf : GeometryClass → (ℕ → Parsed Geometry) → List ℕ → WkbHeader → Parsed Content
 contentOf pointClass f s h = mapParsed point (pointAt h s (h .body))
 contentOf lineClass f s h = mapParsed line (lineAt h s (h .body))
 contentOf polygonClass f s h = mapParsed rings (ringsAt h s (h .body))
@@ -189,7 +189,7 @@ contentOf unknownClass f s h = refused 11
 -- a geometry by its header; f reads a member
 unfoldable pub geometryFrom : (ℕ → Parsed Geometry) → List ℕ → ParsedHeader → Parsed Geometry
 geometryFrom f s (header.Refused k) = refused k
-geometryFrom f s (header.Read h) = mapParsed (geometry (h .kind) (h .z) (h .m)) (contentOf (classOf (h .kind)) f s h)
+geometryFrom f s (header.Read h) = mapParsed (geometry (h .kind) (h .z) (h .m)) (contentOf (geometryClassOf (h .kind)) f s h)
 
 -- the levels that are read: 0, the top, to 32
 abbrev pub allLevels : ℕ

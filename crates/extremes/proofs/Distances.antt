@@ -13,7 +13,7 @@ use Rattle.primitives.specs.declared.Point.{Point}
 use Rattle.primitives.specs.Vectors.{differenceOf, dotOf, squaredDistance}
 use Rattle.primitives.specs.Witnesses.{witnessOf, betweenOf}
 use Rattle.extremes.specs.Pairs.{Pair}
-use Rattle.extremes.specs.Extreme.{Counts, distanceOf}
+use Rattle.extremes.specs.Extreme.{HasDistance, distanceOf}
 
 abbrev pub IsNumber : Float → Type 0
 IsNumber x = T (not (isNan x))
@@ -55,5 +55,5 @@ module _ (a b : Point) (n : IsNumber (betweenOf a b .d)) where
       (record { on-x = x .0; on-y = y .0; on-z = z .0 }, record { on-x = x .1; on-y = y .1; on-z = z .1 })
 
 -- a pair that counts has no NaN among its six ordinates
-pub counts-no-nan : {A : Type 0} (point : A → Point) (p : Pair A) → Counts (distanceOf point) p → NoNan (point (p .left)) × NoNan (point (p .right))
+pub counts-no-nan : {A : Type 0} (point : A → Point) (p : Pair A) → HasDistance (distanceOf point) p → NoNan (point (p .left)) × NoNan (point (p .right))
 counts-no-nan point p c = points-no-nan (point (p .left)) (point (p .right)) c

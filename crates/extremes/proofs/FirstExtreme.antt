@@ -13,7 +13,7 @@ use lib.Ieee.{Float}
 use Rattle.primitives.specs.declared.Point.{Point}
 use Rattle.primitives.specs.declared.Witness.{Witness}
 use Rattle.extremes.specs.Pairs.{Pair, pairsWith, pairsOf}
-use Rattle.extremes.specs.Extreme.{measured, distanceOf, Counts, FirstAt, IsFirst, Holds}
+use Rattle.extremes.specs.Extreme.{measured, distanceOf, HasDistance, FirstAt, IsFirst, Holds}
 use Rattle.primitives.specs.Witnesses.{betterOf}
 use Rattle.extremes.specs.Sweeps.{taking}
 use Rattle.extremes.proofs.Lists.{Each, Before, each-at, before-at}
@@ -40,7 +40,7 @@ first-unique distance order l k k′ p p′ f g = go (decLt k k′) (decLt k′ 
 
 -- the third property, with other words for "none" and for "the pair", which need agree only on pairs of the list that count
 pub holds-restated : {A : Type 0} {distance : Pair A → Float} {order : Float → Float → Bool} {ls rs : List A} {IsNone IsNone′ : Type 0} {IsPair IsPair′ : Pair A → Type 0} → (IsNone′ ↔ IsNone)
-    → ((k : ℕ) (p : Pair A) → getElem? (pairsOf ls rs) k ≡ some p → Counts distance p → IsPair p → IsPair′ p) → Holds distance order ls rs IsNone IsPair → Holds distance order ls rs IsNone′ IsPair′
+    → ((k : ℕ) (p : Pair A) → getElem? (pairsOf ls rs) k ≡ some p → HasDistance distance p → IsPair p → IsPair′ p) → Holds distance order ls rs IsNone IsPair → Holds distance order ls rs IsNone′ IsPair′
 holds-restated same carry h =
     record {
       none-exactly = Iff·trans same (h .none-exactly);
@@ -51,16 +51,16 @@ module _ {A : Type 0} (point : A → Point) where
   abbrev distance : Pair A → Float
   distance p = distanceOf point p
 
-  pub number : (p : Pair A) → Counts (distanceOf point) p → Number (distanceOf point p)
+  pub number : (p : Pair A) → HasDistance (distanceOf point) p → Number (distanceOf point p)
   number p c = record { fit = distance-fits (point (p .left)) (point (p .right)); real = c }
 
   module _ {order beats : Float → Float → Bool} (σ : Sense order beats) where
     -- v stands in the order to q; v is beaten by q
     abbrev Under : Pair A → Pair A → Type 0
-    Under q v = Counts distance v → T (order (distance v) (distance q))
+    Under q v = HasDistance distance v → T (order (distance v) (distance q))
 
     abbrev Beaten : Pair A → Pair A → Type 0
-    Beaten q v = Counts distance v → beats (distance v) (distance q) ≡ true
+    Beaten q v = HasDistance distance v → beats (distance v) (distance q) ≡ true
 
     -- the result r is the first extreme pair of l, position by position
     record Won (l : List (Pair A)) (r : Option Witness) : Type 0 where
@@ -68,12 +68,12 @@ module _ {A : Type 0} (point : A → Point) where
       pair : Pair A
       there : getElem? l k ≡ some pair
       given : r ≡ some (measured point pair)
-      counts : Counts distance pair
+      counts : HasDistance distance pair
       each : Each (Under pair) l
       before : Before (Beaten pair) k l
 
     -- the best is replaced by x, and the rest goes on from x
-    replaced : (p x : Pair A) (l : List (Pair A)) (r : Option Witness) → Counts distance p → beats (distance p) (distance x) ≡ true → Won (x ∷ l) r → Won (p ∷ x ∷ l) r
+    replaced : (p x : Pair A) (l : List (Pair A)) (r : Option Witness) → HasDistance distance p → beats (distance p) (distance x) ≡ true → Won (x ∷ l) r → Won (p ∷ x ∷ l) r
     replaced p x l r c h w =
         let n = σ .winner (distance p) (distance x) h in
         let u = w .each .0 n in
@@ -88,11 +88,11 @@ module _ {A : Type 0} (point : A → Point) where
         }
 
     -- the best stays p, and the rest goes on from p
-    stayed : (p x : Pair A) (l : List (Pair A)) (r : Option Witness) → Counts distance p → beats (distance p) (distance x) ≡ false → Won (p ∷ l) r → Won (p ∷ x ∷ l) r
+    stayed : (p x : Pair A) (l : List (Pair A)) (r : Option Witness) → HasDistance distance p → beats (distance p) (distance x) ≡ false → Won (p ∷ l) r → Won (p ∷ x ∷ l) r
     stayed p x l r c h w = go (w .k) (w .there) (w .before)
       where
         -- x is no better than p
-        low : Counts distance x → T (order (distance x) (distance p))
+        low : HasDistance distance x → T (order (distance x) (distance p))
         low n = σ .stay (distance p) (distance x) (number p c) (number x n) h
 
         each′ : Each (Under (w .pair)) (p ∷ x ∷ l)
@@ -102,12 +102,12 @@ module _ {A : Type 0} (point : A → Point) where
         go zero t b = record { k = zero; pair = w .pair; there = t; given = w .given; counts = w .counts; each = each′; before = tt }
         go (suc k) t b = record { k = suc (suc k); pair = w .pair; there = t; given = w .given; counts = w .counts; each = each′; before = (b .0, (λ n. beats-down σ (distance x) (distance p) (distance (w .pair)) (number x n) (number p c) (number (w .pair) (w .counts)) (low n) (b .0 c), b .1)) }
 
-    won : (p : Pair A) (l : List (Pair A)) → Counts distance p → Won (p ∷ l) (bestOf point beats (some (measured point p)) l)
+    won : (p : Pair A) (l : List (Pair A)) → HasDistance distance p → Won (p ∷ l) (bestOf point beats (some (measured point p)) l)
     unfolding taking
     won p [] c = record { k = zero; pair = p; there = refl; given = refl; counts = c; each = (λ _. order-self σ (distance p) (number p c), tt); before = tt }
     won p (x ∷ l) c = go (beats (distance p) (distance x)) refl (λ n. won x l n) (won p l c)
       where
-        go : (t : Bool) → beats (distance p) (distance x) ≡ t → (Counts distance x → Won (x ∷ l) (bestOf point beats (some (measured point x)) l)) → Won (p ∷ l) (bestOf point beats (some (measured point p)) l)
+        go : (t : Bool) → beats (distance p) (distance x) ≡ t → (HasDistance distance x → Won (x ∷ l) (bestOf point beats (some (measured point x)) l)) → Won (p ∷ l) (bestOf point beats (some (measured point p)) l)
             → Won (p ∷ x ∷ l) (bestOf point beats (some (cond t (measured point x) (measured point p))) l)
         go true h v w = replaced p x l _ c h (v (σ .winner (distance p) (distance x) h))
         go false h v w = stayed p x l _ c h w
@@ -139,11 +139,11 @@ module _ {A : Type 0} (point : A → Point) where
     empty-none ls rs (inl e) = ap (λ (l : List A). bestOf point beats none (pairsOf l rs)) e
     empty-none ls rs (inr e) = ap (λ (l : List A). bestOf point beats none (pairsOf ls l)) e ∙ ap (bestOf point beats none) (no-pairs ls)
 
-    answered : (l : List (Pair A)) (p : Pair A) → getElem? l 0 ≡ some p → Counts distance p → IsFirst distance order l (λ q. bestOf point beats none l ≡ some (measured point q))
+    answered : (l : List (Pair A)) (p : Pair A) → getElem? l 0 ≡ some p → HasDistance distance p → IsFirst distance order l (λ q. bestOf point beats none l ≡ some (measured point q))
     unfolding taking
     answered [] p h c = absurd (Option·none-ne-some p h)
     answered (q ∷ l) p h c =
-        let w = won q l (subst (Counts distance) (sym (Option·some-injective q p h)) c) in
+        let w = won q l (subst (HasDistance distance) (sym (Option·some-injective q p h)) c) in
         record { k = w .k; pair = w .pair; first = first-at (q ∷ l) (bestOf point beats (some (measured point q)) l) w; given = w .given }
 
     -- an answer that is the best of all pairs has the third property

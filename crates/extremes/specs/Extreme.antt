@@ -30,13 +30,13 @@ abbrev pub atLeast : Float → Float → Bool
 atLeast x y = le y x
 
 -- the pair's distance is no NaN
-abbrev pub Counts : {A : Type 0} → (Pair A → Float) → Pair A → Type 0
-Counts distance p = T (not (isNan (distance p)))
+abbrev pub HasDistance : {A : Type 0} → (Pair A → Float) → Pair A → Type 0
+HasDistance distance p = T (not (isNan (distance p)))
 
 -- p counts, and each pair of the list that counts stands in the order to it
 pub record Extreme {A : Type 0} (distance : Pair A → Float) (order : Float → Float → Bool) (pairs : List (Pair A)) (p : Pair A) : Type 0 where
-  pub counts : Counts distance p
-  pub each : (j : ℕ) (q : Pair A) → getElem? pairs j ≡ some q → Counts distance q → T (order (distance q) (distance p))
+  pub counts : HasDistance distance p
+  pub each : (j : ℕ) (q : Pair A) → getElem? pairs j ≡ some q → HasDistance distance q → T (order (distance q) (distance p))
 
 -- p stands at position k and is extreme, and no earlier position has a pair that is extreme
 pub record FirstAt {A : Type 0} (distance : Pair A → Float) (order : Float → Float → Bool) (pairs : List (Pair A)) (k : ℕ) (p : Pair A) : Type 0 where
@@ -55,4 +55,4 @@ pub record IsFirst {A : Type 0} (distance : Pair A → Float) (order : Float →
 -- none exactly when a side has no vertex; if there is a first pair and it counts, the first extreme pair
 pub record Holds {A : Type 0} (distance : Pair A → Float) (order : Float → Float → Bool) (ls rs : List A) (IsNone : Type 0) (IsPair : Pair A → Type 0) : Type 0 where
   pub none-exactly : IsNone ↔ ((ls ≡ []) ⊎ (rs ≡ []))
-  pub first-extreme : (p : Pair A) → getElem? (pairsOf ls rs) 0 ≡ some p → Counts distance p → IsFirst distance order (pairsOf ls rs) IsPair
+  pub first-extreme : (p : Pair A) → getElem? (pairsOf ls rs) 0 ≡ some p → HasDistance distance p → IsFirst distance order (pairsOf ls rs) IsPair

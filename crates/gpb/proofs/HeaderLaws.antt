@@ -9,7 +9,7 @@ use native.Mathlib.Omega.{arith}
 use lib.Dec.{eqb, lit≤}
 use lib.ListN.{length, getD, getElem?, List·getD-eq-default}
 use borrow.Author.Tests.{ltb-false}
-use Rattle.refusals.specs.Checks.{Check, check, firstOf, FirstAt}
+use Rattle.refusals.specs.Checks.{Check, check, firstOf, FirstCheckAt}
 use Rattle.refusals.proofs.Checks.{given-exactly, first-append, first-keeps}
 use Rattle.gpb.specs.Header.{isGp, doublesOf, envelopeIndicator, geometryStart, byteOrderOf, topType, sridOf, hasZ, lacksZ, topHeaderCut, byteOrderAboveOne, gpChecks, topChecks, headerChecks, headerChecks3d, refusedOr, headerOf, headerOf3d}
 use Rattle.gpb.specs.declared.Header.{Header}
@@ -71,13 +71,13 @@ found-is (some j) s at code srid h = let z : _≡_ {A = ℕ} 0 1 = cc in absurd 
 found-is none s at code srid h = record { unrefused = refl; start = cc; type = cc; own = cc }
 
 -- End theorem: the header refuses with k exactly when a check gives k whose condition holds, and no earlier one holds
-pub refused-exactly : (s : List ℕ) (k : ℕ) → (headerOf s ≡ header.Refused k) ↔ ((i : ℕ) × (c : Check ℕ) × FirstAt (headerChecks s) k i c)
+pub refused-exactly : (s : List ℕ) (k : ℕ) → (headerOf s ≡ header.Refused k) ↔ ((i : ℕ) × (c : Check ℕ) × FirstCheckAt (headerChecks s) k i c)
 unfolding headerOf refusedOr
 refused-exactly s k =
     (λ h. given-exactly (headerChecks s) k .0 (refused-is (firstOf (headerChecks s)) s k h), λ f. rw (given-exactly (headerChecks s) k .1 f))
 
 -- End theorem: so does the header of a blob that is to have Z
-pub refused-exactly-3d : (s : List ℕ) (k : ℕ) → (headerOf3d s ≡ header.Refused k) ↔ ((i : ℕ) × (c : Check ℕ) × FirstAt (headerChecks3d s) k i c)
+pub refused-exactly-3d : (s : List ℕ) (k : ℕ) → (headerOf3d s ≡ header.Refused k) ↔ ((i : ℕ) × (c : Check ℕ) × FirstCheckAt (headerChecks3d s) k i c)
 unfolding headerOf3d refusedOr
 refused-exactly-3d s k =
     (λ h. given-exactly (headerChecks3d s) k .0 (refused-is (firstOf (headerChecks3d s)) s k h), λ f. rw (given-exactly (headerChecks3d s) k .1 f))

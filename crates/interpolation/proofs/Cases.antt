@@ -4,7 +4,7 @@ use mathlib.Core.Bool.{Bool, true, false, cond, _&&_, not}
 use lib.Ieee.{Float, binary64, add, div, eq, le, ofBits}
 use Rattle.ieee754.specs.MinMax.{positiveZero, one, clampOf}
 use Rattle.primitives.specs.declared.Point.{Point}
-use Rattle.interpolation.specs.Interpolation.{segment, lengthOf, withLength, partOf}
+use Rattle.interpolation.specs.Interpolation.{segment, lengthOf, withLength, parameterOf}
 use Rattle.interpolation.specs.Operation.{outOfRange}
 use Rattle.interpolation.specs.Inner.{measuring, lookedAt, searching}
 use Rattle.interpolation.specs.declared.Measured.{Measured}
@@ -33,17 +33,17 @@ module _ (fraction : Float) where
 -- ---- t
 
 module _ (rest whole : Float) where
-  part-is : (b : Bool) → eq whole positiveZero ≡ b → cond b positiveZero (clampOf (div binary64 rest whole)) ≡ partOf rest whole
-  unfolding partOf
+  part-is : (b : Bool) → eq whole positiveZero ≡ b → cond b positiveZero (clampOf (div binary64 rest whole)) ≡ parameterOf rest whole
+  unfolding parameterOf
   part-is b e = sym (ap (λ (t : Bool). cond t positiveZero (clampOf (div binary64 rest whole))) e)
 
-  pub part-of-none : eq whole (ofBits binary64 0) ≡ true → ofBits binary64 0 ≡ partOf rest whole
+  pub parameter-of-none : eq whole (ofBits binary64 0) ≡ true → ofBits binary64 0 ≡ parameterOf rest whole
   unfolding ofBits
-  part-of-none e = part-is true e
+  parameter-of-none e = part-is true e
 
-  pub part-of-some : (t : Float) → eq whole (ofBits binary64 0) ≡ false → t ≡ clampOf (div binary64 rest whole) → t ≡ partOf rest whole
+  pub parameter-of-some : (t : Float) → eq whole (ofBits binary64 0) ≡ false → t ≡ clampOf (div binary64 rest whole) → t ≡ parameterOf rest whole
   unfolding ofBits
-  part-of-some t e f = f ∙ part-is false e
+  parameter-of-some t e f = f ∙ part-is false e
 
 -- ---- one segment more
 

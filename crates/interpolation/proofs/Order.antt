@@ -25,7 +25,7 @@ use Rattle.blob.specs.declared.Operand.{Operand}
 use Rattle.blob.proofs.Steps.{Given}
 use Rattle.outcomes.specs.Operations.{noSide}
 use Rattle.interpolation.specs.Operation.{outOfRange, isNoLine, interpolationChecks}
-use Rattle.interpolation.specs.Inner.{noLineBy, checkedBy, checkedOf, Ready}
+use Rattle.interpolation.specs.Inner.{noLineBy, lineCheckedBy, lineCheckedOf, ReadyToMeasure}
 use Rattle.interpolation.specs.declared.Checked.{Checked}
 use Rattle.interpolation.specs.declared.Checked.the-variants as checked
 use Rattle.interpolation.proofs.Lines.{no-line-is}
@@ -62,25 +62,25 @@ module _ (s : List ℕ) (fraction : Float) (floats numbers output : ℕ) where
 
   -- ---- the answer
 
-  answer-is : (x : Option Refusal) → orElse (when (outOfRange fraction) (noSide 2)) (orElse (given (headerChecks s)) (orElse (given (walkChecks s (geometryStart s))) after-walk)) ≡ x → checkedBy x s ≡ checkedOf s fraction floats numbers output
-  unfolding checkedOf
-  answer-is x e = sym (ap (λ (y : Option Refusal). checkedBy y s) (in-order ∙ e))
+  answer-is : (x : Option Refusal) → orElse (when (outOfRange fraction) (noSide 2)) (orElse (given (headerChecks s)) (orElse (given (walkChecks s (geometryStart s))) after-walk)) ≡ x → lineCheckedBy x s ≡ lineCheckedOf s fraction floats numbers output
+  unfolding lineCheckedOf
+  answer-is x e = sym (ap (λ (y : Option Refusal). lineCheckedBy y s) (in-order ∙ e))
 
   module _ (range : Bool) (r : range ≡ outOfRange fraction) where
-    pub by-fraction : range ≡ true → checked.Refused (noSide 2) ≡ checkedOf s fraction floats numbers output
-    unfolding checkedBy when orElse
+    pub by-fraction : range ≡ true → checked.Refused (noSide 2) ≡ lineCheckedOf s fraction floats numbers output
+    unfolding lineCheckedBy when orElse
     by-fraction e = answer-is (some (noSide 2)) (rw (← r, e))
 
     -- the fraction is in range: the header
     module _ (in-range : range ≡ false) where
-      pub by-header : (x : Refusal) → Given (firstOf (headerChecks s)) 1 x → checked.Refused x ≡ checkedOf s fraction floats numbers output
-      unfolding checkedBy when given orElse
+      pub by-header : (x : Refusal) → Given (firstOf (headerChecks s)) 1 x → checked.Refused x ≡ lineCheckedOf s fraction floats numbers output
+      unfolding lineCheckedBy when given orElse
       by-header x g = rw (g .is) (answer-is (some (sided 1 (g .number))) (rw (← r, in-range, g .holds)))
 
       -- the header is read: the walk
       module _ (h : firstOf (headerChecks s) ≡ none) where
-        pub by-walk : (x : Refusal) → Given (firstOf (walkChecks s (geometryStart s))) 1 x → checked.Refused x ≡ checkedOf s fraction floats numbers output
-        unfolding checkedBy when given orElse
+        pub by-walk : (x : Refusal) → Given (firstOf (walkChecks s (geometryStart s))) 1 x → checked.Refused x ≡ lineCheckedOf s fraction floats numbers output
+        unfolding lineCheckedBy when given orElse
         by-walk x g = rw (g .is) (answer-is (some (sided 1 (g .number))) (rw (← r, in-range, h, g .holds)))
 
         -- the walk is accepted: 14
@@ -91,23 +91,23 @@ module _ (s : List ℕ) (fraction : Float) (floats numbers output : ℕ) where
           small-is : tooSmall (runsOfBlob s) floats numbers ≡ tooSmallFor (v .coords) (v .runs) floats numbers
           small-is = rw (w .1)
 
-          pub by-line : line ≡ true → checked.Refused (sided 1 14) ≡ checkedOf s fraction floats numbers output
-          unfolding checkedBy when given orElse after-walk
+          pub by-line : line ≡ true → checked.Refused (sided 1 14) ≡ lineCheckedOf s fraction floats numbers output
+          unfolding lineCheckedBy when given orElse after-walk
           by-line e = answer-is (some (sided 1 14)) (rw (← r, in-range, h, w .0, line-is, e))
 
           -- then 15 and 16
           module _ (is-line : line ≡ false) where
-            pub by-room : (x : Refusal) → (tooSmallFor (v .coords) (v .runs) floats numbers ≡ true) × (x ≡ sided 1 15) → checked.Refused x ≡ checkedOf s fraction floats numbers output
-            unfolding checkedBy when given orElse after-walk
+            pub by-room : (x : Refusal) → (tooSmallFor (v .coords) (v .runs) floats numbers ≡ true) × (x ≡ sided 1 15) → checked.Refused x ≡ lineCheckedOf s fraction floats numbers output
+            unfolding lineCheckedBy when given orElse after-walk
             by-room x t = rw (t .1) (answer-is (some (sided 1 15)) (rw (← r, in-range, h, w .0, line-is, is-line, small-is, t .0)))
 
             module _ (fits : tooSmallFor (v .coords) (v .runs) floats numbers ≡ false) where
-              pub by-output : output < pointBytes → checked.Refused (noSide 16) ≡ checkedOf s fraction floats numbers output
-              unfolding checkedBy when given orElse after-walk
+              pub by-output : output < pointBytes → checked.Refused (noSide 16) ≡ lineCheckedOf s fraction floats numbers output
+              unfolding lineCheckedBy when given orElse after-walk
               by-output e = answer-is (some (noSide 16)) (rw (← r, in-range, h, w .0, line-is, is-line, small-is, fits, lt-ltb output pointBytes e))
 
-              pub by-none : pointBytes ≤ output → checked.Accepted (v .at) (v .coords) (v .runs) (v .srid) ≡ checkedOf s fraction floats numbers output
-              unfolding checkedBy when given orElse after-walk
+              pub by-none : pointBytes ≤ output → checked.Accepted (v .at) (v .coords) (v .runs) (v .srid) ≡ lineCheckedOf s fraction floats numbers output
+              unfolding lineCheckedBy when given orElse after-walk
               by-none e =
                   let none-is = answer-is none (rw (← r, in-range, h, w .0, line-is, is-line, small-is, fits, le-ltb output pointBytes e)) in
                   rw (w .1) none-is
@@ -146,29 +146,29 @@ none-holds s fraction floats numbers output h =
 
 -- ---- what the answer means
 
-pub refused-is-first : (s : List ℕ) (fraction : Float) (floats numbers output : ℕ) (r : Refusal) (o : Checked) → o ≡ checkedOf s fraction floats numbers output → o ≡ checked.Refused r → firstOf (interpolationChecks s fraction floats numbers output) ≡ some r
-unfolding checkedOf checkedBy
+pub refused-is-first : (s : List ℕ) (fraction : Float) (floats numbers output : ℕ) (r : Refusal) (o : Checked) → o ≡ lineCheckedOf s fraction floats numbers output → o ≡ checked.Refused r → firstOf (interpolationChecks s fraction floats numbers output) ≡ some r
+unfolding lineCheckedOf lineCheckedBy
 refused-is-first s fraction floats numbers output r o p q = go (firstOf (interpolationChecks s fraction floats numbers output)) refl
   where
     go : (x : Option Refusal) → firstOf (interpolationChecks s fraction floats numbers output) ≡ x → x ≡ some r
-    go (some t) e = let i : checked.Refused t ≡ checked.Refused r = sym (p ∙ ap (λ (y : Option Refusal). checkedBy y s) e) ∙ q in let same : t ≡ r = cc in ap some same
-    go none e = let i : checked.Accepted _ _ _ _ ≡ checked.Refused r = sym (p ∙ ap (λ (y : Option Refusal). checkedBy y s) e) ∙ q in let z : _≡_ {A = ℕ} 0 1 = cc in absurd (omega arith)
+    go (some t) e = let i : checked.Refused t ≡ checked.Refused r = sym (p ∙ ap (λ (y : Option Refusal). lineCheckedBy y s) e) ∙ q in let same : t ≡ r = cc in ap some same
+    go none e = let i : checked.Accepted _ _ _ _ ≡ checked.Refused r = sym (p ∙ ap (λ (y : Option Refusal). lineCheckedBy y s) e) ∙ q in let z : _≡_ {A = ℕ} 0 1 = cc in absurd (omega arith)
 
 -- nothing is refused: the blob can be read, and the point written
 pub record IsAccepted (s : List ℕ) (fraction : Float) (floats numbers output at coords runs srid : ℕ) : Type 0 where
   pub none-first : firstOf (interpolationChecks s fraction floats numbers output) ≡ none
-  pub ready : Ready s at coords runs floats numbers
+  pub ready : ReadyToMeasure s at coords runs floats numbers
   pub own : srid ≡ sridOf s
   pub room-for-point : pointBytes ≤ output
 
-pub is-accepted : (s : List ℕ) (fraction : Float) (floats numbers output at coords runs srid : ℕ) (o : Checked) → o ≡ checkedOf s fraction floats numbers output → o ≡ checked.Accepted at coords runs srid → IsAccepted s fraction floats numbers output at coords runs srid
-unfolding checkedOf checkedBy
+pub is-accepted : (s : List ℕ) (fraction : Float) (floats numbers output at coords runs srid : ℕ) (o : Checked) → o ≡ lineCheckedOf s fraction floats numbers output → o ≡ checked.Accepted at coords runs srid → IsAccepted s fraction floats numbers output at coords runs srid
+unfolding lineCheckedOf lineCheckedBy
 is-accepted s fraction floats numbers output at coords runs srid o p q = go (firstOf (interpolationChecks s fraction floats numbers output)) refl
   where
     go : (x : Option Refusal) → firstOf (interpolationChecks s fraction floats numbers output) ≡ x → IsAccepted s fraction floats numbers output at coords runs srid
-    go (some t) e = let i : checked.Refused t ≡ checked.Accepted at coords runs srid = sym (p ∙ ap (λ (y : Option Refusal). checkedBy y s) e) ∙ q in let z : _≡_ {A = ℕ} 0 1 = cc in absurd (omega arith)
+    go (some t) e = let i : checked.Refused t ≡ checked.Accepted at coords runs srid = sym (p ∙ ap (λ (y : Option Refusal). lineCheckedBy y s) e) ∙ q in let z : _≡_ {A = ℕ} 0 1 = cc in absurd (omega arith)
     go none e =
-        let i : checked.Accepted (geometryStart s) (coordinateCount (runsOfBlob s)) (length (runsOfBlob s)) (sridOf s) ≡ checked.Accepted at coords runs srid = sym (p ∙ ap (λ (y : Option Refusal). checkedBy y s) e) ∙ q in
+        let i : checked.Accepted (geometryStart s) (coordinateCount (runsOfBlob s)) (length (runsOfBlob s)) (sridOf s) ≡ checked.Accepted at coords runs srid = sym (p ∙ ap (λ (y : Option Refusal). lineCheckedBy y s) e) ∙ q in
         let n = none-holds s fraction floats numbers output e in
         let fits = not-too-small (coordinateCount (runsOfBlob s)) (length (runsOfBlob s)) floats numbers (n .room) in
         record {

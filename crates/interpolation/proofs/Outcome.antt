@@ -10,7 +10,7 @@ use Rattle.refusals.specs.declared.Refusal.{Refusal}
 use Rattle.gpb.specs.Written.{pointBytes, pointBlob}
 use Rattle.coords.specs.Walk.{walkOf, allLevels}
 use Rattle.coords.specs.Parts.{mapRuns, walkedRuns}
-use Rattle.workspace.specs.Workspace.{floatsPerCoordinate, numbersPerRun, Room, Written}
+use Rattle.workspace.specs.Workspace.{floatsPerCoordinate, numbersPerRun, Room, RunsWritten}
 use Rattle.blob.specs.Blob.{runsOfBlob}
 use Rattle.parts.specs.Points.{pointOf}
 use Rattle.parts.specs.Stored.{storedRuns}
@@ -22,7 +22,7 @@ use Rattle.outcomes.proofs.Handed.{Handed}
 use Rattle.outcomes.proofs.Handed as both
 use Rattle.interpolation.specs.Interpolation.{segmentsOf, interpolatedPoint}
 use Rattle.interpolation.specs.Operation.{pointOfBlob, outputWith, filledOne, lineInterpolatePoint}
-use Rattle.interpolation.specs.Inner.{checkedOf, Ready, PointRead}
+use Rattle.interpolation.specs.Inner.{lineCheckedOf, ReadyToMeasure, PointRead}
 use Rattle.interpolation.specs.declared.Checked.{Checked}
 use Rattle.interpolation.specs.declared.Checked.the-variants as checked
 use Rattle.interpolation.proofs.Lines.{segments-map, has-segment}
@@ -30,13 +30,13 @@ use Rattle.interpolation.proofs.Order.{refused-is-first, IsAccepted}
 
 -- ---- the blob, once it is read
 
-module _ (s : List ℕ) (at coords runs : ℕ) (fs : List Float) (ts : List ℕ) (ready : Ready s at coords runs (length fs) (length ts)) where
+module _ (s : List ℕ) (at coords runs : ℕ) (fs : List Float) (ts : List ℕ) (ready : ReadyToMeasure s at coords runs (length fs) (length ts)) where
   pub room-at : Room (walkOf allLevels s at) (length fs) (length ts)
   room-at = rw (ready .start) (ready .room)
 
-  module _ (fs′ : List Float) (ts′ : List ℕ) (full : Written (walkedRuns (walkOf allLevels s at)) fs ts fs′ ts′) where
-    written-at : Written (runsOfBlob s) fs ts fs′ ts′
-    written-at = subst (λ (i : ℕ). Written (walkedRuns (walkOf allLevels s i)) fs ts fs′ ts′) (ready .start) full
+  module _ (fs′ : List Float) (ts′ : List ℕ) (full : RunsWritten (walkedRuns (walkOf allLevels s at)) fs ts fs′ ts′) where
+    written-at : RunsWritten (runsOfBlob s) fs ts fs′ ts′
+    written-at = subst (λ (i : ℕ). RunsWritten (walkedRuns (walkOf allLevels s i)) fs ts fs′ ts′) (ready .start) full
 
     pub handed : Handed s coords runs fs′ ts′
     handed = rw (ready .coordinates, ready .number, written-at .ordinates, written-at .rows) (both.handed s fs ts)
@@ -54,7 +54,7 @@ module _ (s : List ℕ) (at coords runs : ℕ) (fs : List Float) (ts : List ℕ)
 -- ---- the outcome
 
 module _ (s : List ℕ) (fraction : Float) (w : Workspaces) (out : List ℕ) where
-  pub outcome-refused : (r : Refusal) (o : Checked) → o ≡ checkedOf s fraction (length (w .floats1)) (length (w .table1)) (length out) → o ≡ checked.Refused r → outcome (refusing r) w out ≡ lineInterpolatePoint s fraction w out
+  pub outcome-refused : (r : Refusal) (o : Checked) → o ≡ lineCheckedOf s fraction (length (w .floats1)) (length (w .table1)) (length out) → o ≡ checked.Refused r → outcome (refusing r) w out ≡ lineInterpolatePoint s fraction w out
   unfolding lineInterpolatePoint unless
   outcome-refused r o p q = rw (refused-is-first s fraction (length (w .floats1)) (length (w .table1)) (length out) r o p q)
 

@@ -10,7 +10,7 @@ use lib.Ieee.{Float}
 use borrow.Author.Tests.{eq-eqb, ne-eqb}
 use Rattle.coords.specs.Parts.{segmentsBy, ofKind}
 use Rattle.workspace.specs.Workspace.{floatsPerCoordinate, numbersPerRun}
-use Rattle.parts.specs.Stored.{pointAt, pointsFrom, runsFrom, storedRuns, runCount, kindAt, countAt, pointCount, Laid}
+use Rattle.parts.specs.Stored.{storedPoint, pointsFrom, runsFrom, storedRuns, runCount, kindAt, countAt, pointCount, Laid}
 use Rattle.parts.proofs.Turns.{points-next, runs-next, runs-none, count-next}
 use Rattle.primitives.specs.declared.Point.{Point}
 use Rattle.interpolation.specs.Interpolation.{Segment, segment, segmentsOfLine, segmentsOf}
@@ -18,7 +18,7 @@ use Rattle.interpolation.specs.Interpolation.{Segment, segment, segments
 -- ---- the segments of a line
 
 module _ (floats : List Float) (at n : ℕ) where
-  line-next : 1 < n → segmentsOfLine (pointsFrom floats at n) ≡ segment (pointAt floats at) (pointAt floats (at + 1)) ∷ segmentsOfLine (pointsFrom floats (at + 1) (n - 1))
+  line-next : 1 < n → segmentsOfLine (pointsFrom floats at n) ≡ segment (storedPoint floats at) (storedPoint floats (at + 1)) ∷ segmentsOfLine (pointsFrom floats (at + 1) (n - 1))
   unfolding segmentsBy
   line-next h = rw (points-next floats at n (omega arith), points-next floats (at + 1) (n - 1) (omega arith))
 
@@ -32,7 +32,7 @@ module _ (floats : List Float) (at n : ℕ) where
       go (suc (suc k)) l = absurd (omega arith)
 
   module _ {S : Type 0} (step : S → Segment Point → S) (s : S) where
-    pub line-turn : 1 < n → foldl step s (segmentsOfLine (pointsFrom floats at n)) ≡ foldl step (step s (segment (pointAt floats at) (pointAt floats (at + 1)))) (segmentsOfLine (pointsFrom floats (at + 1) (n - 1)))
+    pub line-turn : 1 < n → foldl step s (segmentsOfLine (pointsFrom floats at n)) ≡ foldl step (step s (segment (storedPoint floats at) (storedPoint floats (at + 1)))) (segmentsOfLine (pointsFrom floats (at + 1) (n - 1)))
     line-turn h = rw (line-next h)
 
     pub line-end : n ≤ 1 → foldl step s (segmentsOfLine (pointsFrom floats at n)) ≡ s

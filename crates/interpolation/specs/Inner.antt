@@ -12,7 +12,7 @@ use Rattle.refusals.specs.Checks.{firstOf}
 use Rattle.refusals.specs.declared.Refusal.{Refusal}
 use Rattle.gpb.specs.Header.{geometryStart, sridOf}
 use Rattle.coords.specs.Parts.{coordinateCount}
-use Rattle.workspace.specs.Workspace.{Room, Written}
+use Rattle.workspace.specs.Workspace.{Room, RunsWritten}
 use Rattle.blob.specs.Blob.{walkOfBlob, runsOfBlob}
 use Rattle.primitives.specs.declared.Point.{Point}
 use Rattle.interpolation.specs.Interpolation.{Segment, withLength}
@@ -28,12 +28,12 @@ use Rattle.interpolation.specs.declared.Search.{Search}
 abbrev pub noLineBy : ℕ → ℕ → ℕ → Bool
 noLineBy coords runs others = eqb coords runs || ltb 0 others
 
-unfoldable pub checkedBy : Option Refusal → List ℕ → Checked
-checkedBy (some r) s = checked.Refused r
-checkedBy none s = checked.Accepted (geometryStart s) (coordinateCount (runsOfBlob s)) (length (runsOfBlob s)) (sridOf s)
+unfoldable pub lineCheckedBy : Option Refusal → List ℕ → Checked
+lineCheckedBy (some r) s = checked.Refused r
+lineCheckedBy none s = checked.Accepted (geometryStart s) (coordinateCount (runsOfBlob s)) (length (runsOfBlob s)) (sridOf s)
 
-unfoldable pub checkedOf : List ℕ → Float → ℕ → ℕ → ℕ → Checked
-checkedOf s fraction floats numbers output = checkedBy (firstOf (interpolationChecks s fraction floats numbers output)) s
+unfoldable pub lineCheckedOf : List ℕ → Float → ℕ → ℕ → ℕ → Checked
+lineCheckedOf s fraction floats numbers output = lineCheckedBy (firstOf (interpolationChecks s fraction floats numbers output)) s
 
 -- ---- the two passes over the segments
 
@@ -62,7 +62,7 @@ notSearched = record { found = false; walked = positiveZero; reached = positiveZ
 -- ---- the blob, once it is read
 
 -- every check has passed: the blob's numbers, and room for it
-pub record Ready (s : List ℕ) (at coords runs floats numbers : ℕ) : Type 0 where
+pub record ReadyToMeasure (s : List ℕ) (at coords runs floats numbers : ℕ) : Type 0 where
   pub start : at ≡ geometryStart s
   pub coordinates : coords ≡ coordinateCount (runsOfBlob s)
   pub number : runs ≡ length (runsOfBlob s)
@@ -72,4 +72,4 @@ pub record Ready (s : List ℕ) (at coords runs floats numbers : ℕ) : Type 0 w
 -- the point, and the workspace after the call, from that before it
 pub record PointRead (s : List ℕ) (fraction : Float) (floats : List Float) (table : List ℕ) (floats′ : List Float) (table′ : List ℕ) (p : Point) : Type 0 where
   pub point : pointOfBlob s fraction ≡ some p
-  pub memory : Written (runsOfBlob s) floats table floats′ table′
+  pub memory : RunsWritten (runsOfBlob s) floats table floats′ table′

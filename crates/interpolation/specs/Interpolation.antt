@@ -42,12 +42,12 @@ totalOf gs = foldl withLength positiveZero gs
 -- ---- the point
 
 -- t: (fraction × total - walked) / length, clamped, or 0 where the length is 0
-unfoldable pub partOf : Float → Float → Float
-partOf rest whole = cond (eq whole positiveZero) positiveZero (clampOf (div binary64 rest whole))
+unfoldable pub parameterOf : Float → Float → Float
+parameterOf rest whole = cond (eq whole positiveZero) positiveZero (clampOf (div binary64 rest whole))
 
 -- start + t × (end - start) per axis; `walked` is what was walked before the segment, `target` is fraction × total
 unfoldable pub pointOn : Float → Float → Segment Point → Point
-pointOn target walked g = interpolatedOf (g .start) (g .end) (partOf (sub binary64 target walked) (lengthOf g))
+pointOn target walked g = interpolatedOf (g .start) (g .end) (parameterOf (sub binary64 target walked) (lengthOf g))
 
 -- on the first segment, from g on, where walked + length ≥ target, or on the last by position
 unfoldable pub pointFrom : Float → Float → Segment Point → List (Segment Point) → Point

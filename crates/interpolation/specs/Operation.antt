@@ -50,9 +50,9 @@ interpolationChecks s fraction floats numbers output =
 -- ---- the outcome
 
 -- a point in the output, or a refusal
-unfoldable pub reportOf : Interpolated → Report
-reportOf interpolated.Blob = answering blob
-reportOf (interpolated.Refused r) = refusing r
+unfoldable pub interpolatedReport : Interpolated → Report
+interpolatedReport interpolated.Blob = answering blob
+interpolatedReport (interpolated.Refused r) = refusing r
 
 -- the point of a blob's line runs; none where they have no segment, which 14 refuses
 unfoldable pub pointOfBlob : List ℕ → Float → Option Point

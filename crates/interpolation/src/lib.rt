@@ -22,10 +22,10 @@ ghost use Rattle.parts.specs.Stored.{pointsFrom, storedRuns, Laid};
 ghost use Rattle.outcomes.specs.Lent.{lentOne, leftOne};
 ghost use Rattle.outcomes.specs.Operations.{outcome};
 ghost use Rattle.interpolation.specs.Interpolation.{segment, segmentsOfLine, segmentsOf, lengthOf};
-ghost use Rattle.interpolation.specs.Interpolation.{partOf, pointOn, interpolatedPoint};
-ghost use Rattle.interpolation.specs.Operation.{outOfRange, reportOf, lineInterpolatePoint};
-ghost use Rattle.interpolation.specs.Inner.{noLineBy, checkedOf, measuring, searching};
-ghost use Rattle.interpolation.specs.Inner.{notMeasured, notSearched, Ready, PointRead};
+ghost use Rattle.interpolation.specs.Interpolation.{parameterOf, pointOn, interpolatedPoint};
+ghost use Rattle.interpolation.specs.Operation.{outOfRange, interpolatedReport, lineInterpolatePoint};
+ghost use Rattle.interpolation.specs.Inner.{noLineBy, lineCheckedOf, measuring, searching};
+ghost use Rattle.interpolation.specs.Inner.{notMeasured, notSearched, ReadyToMeasure, PointRead};
 
 // A point blob in the output, or a refusal.
 pub enum Interpolated {
@@ -88,7 +88,7 @@ fn is_no_line(o: Operand) -> bool
 
 // Every check in order; floats, numbers and output are the lengths lent.
 fn check(s: &[u8], fraction: f64, floats: usize, numbers: usize, output: usize) -> Checked
-    ensures { λ r. ⌜ r ≡ checkedOf (now (s .entry)) fraction floats numbers output ⌝ }
+    ensures { λ r. ⌜ r ≡ lineCheckedOf (now (s .entry)) fraction floats numbers output ⌝ }
 {
     if out_of_range(fraction) {
         return Checked::Refused(Refusal { number: 2, side: 0 });
@@ -272,9 +272,9 @@ fn search_all(target: f64, floats: &[f64], table: &[u32]) -> Search
     w
 }
 
-// How far along a segment, as a part of its length.
-fn part(rest: f64, whole: f64) -> f64
-    ensures { λ r. ⌜ r ≡ partOf rest whole ⌝ }
+// The parameter of a point on a segment: how far along it is, as a part of the length.
+fn parameter(rest: f64, whole: f64) -> f64
+    ensures { λ r. ⌜ r ≡ parameterOf rest whole ⌝ }
 {
     if whole == 0.0 {
         0.0
@@ -287,7 +287,7 @@ fn part(rest: f64, whole: f64) -> f64
 fn point_on(target: f64, walked: f64, a: Point, b: Point) -> Point
     ensures { λ r. ⌜ r ≡ pointOn target walked (segment a b) ⌝ }
 {
-    primitives::interpolated(a, b, part(target - walked, segment_length(a, b)))
+    primitives::interpolated(a, b, parameter(target - walked, segment_length(a, b)))
 }
 
 // The point at a fraction of the total length of a workspace's segments.
@@ -316,7 +316,7 @@ fn read_point(
     floats: &mut [f64],
     table: &mut [u32],
 ) -> Point
-    requires { ⌜ Ready (now s) at coords runs (length (now floats)) (length (now table)) ⌝ }
+    requires { ⌜ ReadyToMeasure (now s) at coords runs (length (now floats)) (length (now table)) ⌝ }
     ensures { λ p. ⌜ PointRead (now (s .entry)) fraction
         (now (floats .entry)) (now (table .entry)) (now (floats .exit)) (now (table .exit)) p ⌝ }
 {
@@ -334,7 +334,7 @@ pub fn st_3d_line_interpolate_point(
     table: &mut [u32],
     output: &mut [u8],
 ) -> Interpolated
-    ensures whole_outcome { λ r. ⌜ outcome (reportOf r) (leftOne floats table) (now (output .exit))
+    ensures whole_outcome { λ r. ⌜ outcome (interpolatedReport r) (leftOne floats table) (now (output .exit))
         ≡ lineInterpolatePoint (now (s .entry)) fraction (lentOne floats table) (now (output .entry)) ⌝ }
 {
     match check(s, fraction, floats.len(), table.len(), output.len()) {

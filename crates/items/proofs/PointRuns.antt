@@ -6,7 +6,7 @@ use Prim.Native.Nat.{ℕ}
 use borrow.Author.Tests.{eqb-true}
 use Rattle.coords.specs.Parts.{Run, run, mapRuns, isPoint, isLine, isFace, PointRunsOnly, ofKind, segmentEnds, verticesOf}
 use Rattle.primitives.specs.declared.Point.{Point}
-use Rattle.items.specs.Items.{point, pointsOf, segmentsOf, trianglesOf, itemsOf}
+use Rattle.items.specs.Items.{point, pointItems, segmentItems, triangleItems, itemsOf}
 
 no-line : (kind : ℕ) → isPoint kind ≡ true → isLine kind ≡ false
 no-line kind e = rw (eqb-true kind 1 e)
@@ -20,15 +20,15 @@ unfolding PointRunsOnly ofKind
 none-of-kind test f no-point [] h = refl
 none-of-kind test f no-point (run kind ps ∷ rs) h = rw (no-point kind (h .0)) (none-of-kind test f no-point rs (h .1))
 
-only-points : (rs : List (Run Point)) → PointRunsOnly rs → ofKind isPoint pointsOf rs ≡ map point (ofKind isPoint (λ cs. cs) rs)
-unfolding PointRunsOnly ofKind pointsOf
+only-points : (rs : List (Run Point)) → PointRunsOnly rs → ofKind isPoint pointItems rs ≡ map point (ofKind isPoint (λ cs. cs) rs)
+unfolding PointRunsOnly ofKind pointItems
 only-points [] h = refl
 only-points (run kind ps ∷ rs) h = rw (h .0, only-points rs (h .1)) (sym (map-append point ps (ofKind isPoint (λ cs. cs) rs)))
 
 pub items-of-points : (rs : List (Run Point)) → PointRunsOnly rs → itemsOf rs ≡ map point (verticesOf rs)
 unfolding itemsOf verticesOf
 items-of-points rs h =
-    rw (none-of-kind isLine segmentsOf no-line rs h, none-of-kind isFace trianglesOf no-face rs h, none-of-kind isLine segmentEnds no-line rs h, none-of-kind isFace (λ cs. cs) no-face rs h, append-nil, append-nil)
+    rw (none-of-kind isLine segmentItems no-line rs h, none-of-kind isFace triangleItems no-face rs h, none-of-kind isLine segmentEnds no-line rs h, none-of-kind isFace (λ cs. cs) no-face rs h, append-nil, append-nil)
     (only-points rs h)
 
 pub point-runs-mapped : {A B : Type 0} (f : A → B) (rs : List (Run A)) → PointRunsOnly rs → PointRunsOnly (mapRuns f rs)

@@ -8,9 +8,9 @@ use lib.ListN.{drop}
 use lib.Ieee.{Float}
 use Rattle.coords.specs.Parts.{segmentsBy}
 use Rattle.workspace.specs.Workspace.{numbersPerRun}
-use Rattle.parts.specs.Stored.{pointAt, pointsFrom, runsFrom, runCount, kindAt, countAt}
+use Rattle.parts.specs.Stored.{storedPoint, pointsFrom, runsFrom, runCount, kindAt, countAt}
 use Rattle.parts.proofs.Turns.{runs-next, runs-none}
-use Rattle.items.specs.Items.{Item, segment, triangle, pointsOf, segmentsOf, trianglesOf, itemsOfKind}
+use Rattle.items.specs.Items.{Item, segment, triangle, pointItems, segmentItems, triangleItems, itemsOfKind}
 use Rattle.items.specs.Inner.{isOfClass, itemsBy, classItems, itemCount, itemAt}
 use Rattle.items.specs.declared.Class.{Class}
 use Rattle.items.specs.declared.Class.the-variants.{Points, Segments, Triangles}
@@ -19,13 +19,13 @@ use Rattle.items.specs.declared.Class.the-variants.{Points, Segments, Tr
 
 -- m items of a run whose points start at place at, from item j on
 itemsFrom : Class → List Float → ℕ → ℕ → ℕ → List Item
-itemsFrom Points floats at j m = pointsOf (pointsFrom floats (at + j) m)
-itemsFrom Segments floats at j m = segmentsBy segment (pointAt floats (at + j) ∷ pointsFrom floats (at + j + 1) m)
-itemsFrom Triangles floats at j m = segmentsBy (triangle (pointAt floats at)) (pointAt floats (at + j + 1) ∷ pointsFrom floats (at + j + 2) m)
+itemsFrom Points floats at j m = pointItems (pointsFrom floats (at + j) m)
+itemsFrom Segments floats at j m = segmentsBy segment (storedPoint floats (at + j) ∷ pointsFrom floats (at + j + 1) m)
+itemsFrom Triangles floats at j m = segmentsBy (triangle (storedPoint floats at)) (storedPoint floats (at + j + 1) ∷ pointsFrom floats (at + j + 2) m)
 
 -- the items of a run of n points, from the first on
 items-start : (class : Class) (floats : List Float) (at n : ℕ) → itemsBy class (pointsFrom floats at n) ≡ itemsFrom class floats at 0 (itemCount class n)
-unfolding pointsFrom segmentsOf trianglesOf segmentsBy itemsFrom
+unfolding pointsFrom segmentItems triangleItems segmentsBy itemsFrom
 items-start Points floats at n =
     let e : at + 0 ≡ at = omega arith in
     rw e
@@ -44,7 +44,7 @@ items-start Triangles floats at (suc (suc n)) =
 
 -- item j, and the items after it
 items-next : (class : Class) (floats : List Float) (at j m : ℕ) → itemsFrom class floats at j (suc m) ≡ itemAt class floats at j ∷ itemsFrom class floats at (j + 1) m
-unfolding pointsOf pointsFrom segmentsBy itemsFrom
+unfolding pointItems pointsFrom segmentsBy itemsFrom
 items-next Points floats at j m =
     let e : at + (j + 1) ≡ at + j + 1 = omega arith in
     rw e
@@ -74,7 +74,7 @@ module _ (class : Class) (floats : List Float) (at n : ℕ) where
       rw e (items-next class floats at j (itemCount class n - (j + 1)))
 
   none-from : (d : Class) (j : ℕ) → itemsFrom d floats at j 0 ≡ []
-  unfolding itemsFrom pointsOf pointsFrom segmentsBy
+  unfolding itemsFrom pointItems pointsFrom segmentsBy
   none-from Points j = refl
   none-from Segments j = refl
   none-from Triangles j = refl

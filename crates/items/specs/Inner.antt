@@ -5,8 +5,8 @@ use mathlib.Core.List.{List}
 use lib.Ieee.{Float}
 use Rattle.primitives.specs.declared.Point.{Point}
 use Rattle.coords.specs.Parts.{Run, isPoint, isLine, isFace}
-use Rattle.parts.specs.Stored.{pointAt}
-use Rattle.items.specs.Items.{Item, point, segment, triangle, pointsOf, segmentsOf, trianglesOf, itemsOfKind}
+use Rattle.parts.specs.Stored.{storedPoint}
+use Rattle.items.specs.Items.{Item, point, segment, triangle, pointItems, segmentItems, triangleItems, itemsOfKind}
 use Rattle.items.specs.declared.Class.{Class}
 use Rattle.items.specs.declared.Class.the-variants.{Points, Segments, Triangles}
 use Rattle.items.specs.declared.Shape.{Shape}
@@ -28,9 +28,9 @@ isOfClass Triangles kind = isFace kind
 
 -- the items of a class that such a run gives
 abbrev pub itemsBy : Class → List Point → List Item
-itemsBy Points ps = pointsOf ps
-itemsBy Segments ps = segmentsOf ps
-itemsBy Triangles ps = trianglesOf ps
+itemsBy Points ps = pointItems ps
+itemsBy Segments ps = segmentItems ps
+itemsBy Triangles ps = triangleItems ps
 
 -- the items of a class in all runs
 abbrev pub classItems : Class → List (Run Point) → List Item
@@ -44,6 +44,6 @@ itemCount Triangles n = n - 2
 
 -- item j of a run whose points start at place at
 abbrev pub itemAt : Class → List Float → ℕ → ℕ → Item
-itemAt Points floats at j = point (pointAt floats (at + j))
-itemAt Segments floats at j = segment (pointAt floats (at + j)) (pointAt floats (at + j + 1))
-itemAt Triangles floats at j = triangle (pointAt floats at) (pointAt floats (at + j + 1)) (pointAt floats (at + j + 2))
+itemAt Points floats at j = point (storedPoint floats (at + j))
+itemAt Segments floats at j = segment (storedPoint floats (at + j)) (storedPoint floats (at + j + 1))
+itemAt Triangles floats at j = triangle (storedPoint floats at) (storedPoint floats (at + j + 1)) (storedPoint floats (at + j + 2))

@@ -16,23 +16,23 @@ pub data Item : Type 0 where
 -- ---- the items of a run (document 01, Parts)
 
 -- a point run gives points
-unfoldable pub pointsOf : List Point → List Item
-pointsOf ps = map point ps
+unfoldable pub pointItems : List Point → List Item
+pointItems ps = map point ps
 
 -- a line run gives its segments
-unfoldable pub segmentsOf : List Point → List Item
-segmentsOf ps = segmentsBy segment ps
+unfoldable pub segmentItems : List Point → List Item
+segmentItems ps = segmentsBy segment ps
 
 -- a face fans from its first vertex, a triangle for each segment of the others; under 3 vertices there is none (document 01, Pair measures)
-unfoldable pub trianglesOf : List Point → List Item
-trianglesOf [] = []
-trianglesOf (a ∷ ps) = segmentsBy (triangle a) ps
+unfoldable pub triangleItems : List Point → List Item
+triangleItems [] = []
+triangleItems (a ∷ ps) = segmentsBy (triangle a) ps
 
 -- ---- the items of all runs (document 01, Closest sweep)
 
 -- points, segments, triangles
 unfoldable pub itemsOf : List (Run Point) → List Item
-itemsOf rs = itemsOfKind isPoint pointsOf rs ++ (itemsOfKind isLine segmentsOf rs ++ itemsOfKind isFace trianglesOf rs)
+itemsOf rs = itemsOfKind isPoint pointItems rs ++ (itemsOfKind isLine segmentItems rs ++ itemsOfKind isFace triangleItems rs)
 
 -- ---- boxes
 

@@ -7,14 +7,14 @@ use Prim.Native.Nat.{ℕ}
 use native.Mathlib.Omega.{arith}
 use lib.ListN.{length}
 use lib.Ieee.{Float}
-use Rattle.refusals.specs.Checks.{Check, firstOf, FirstAt}
+use Rattle.refusals.specs.Checks.{Check, firstOf, FirstCheckAt}
 use Rattle.refusals.specs.declared.Refusal.{Refusal}
 use Rattle.refusals.proofs.Checks.{given-exactly}
 use Rattle.gpb.specs.Header.{geometryStart}
 use Rattle.coords.specs.Walk.{walkOf, allLevels}
 use Rattle.coords.specs.Parts.{coordinateCount, walkedRuns}
 use Rattle.coords.proofs.Refusals.{none-given-is-accepted}
-use Rattle.workspace.specs.Workspace.{Room, Written}
+use Rattle.workspace.specs.Workspace.{Room, RunsWritten}
 use Rattle.workspace.proofs.Laws.{not-too-small}
 use Rattle.blob.specs.Blob.{walkOfBlob, runsOfBlob}
 use Rattle.operands.specs.Operands.{operandChecks, workspaces, filled}
@@ -46,7 +46,7 @@ module _ (a b : List ℕ) (f1 n1 f2 n2 : ℕ) where
       go none e = let i : checked.Accepted (operandsOf a b) ≡ checked.Refused r = sym (p ∙ ap (λ (y : Option Refusal). checkedBy y a b) e) ∙ q in let z : _≡_ {A = ℕ} 0 1 = cc in absurd (omega arith)
 
   -- End theorem: a refusal is given exactly when a check gives it whose condition holds, and no earlier one holds
-  pub refused-exactly : (r : Refusal) → (checkedOf a b f1 n1 f2 n2 ≡ checked.Refused r) ↔ ((i : ℕ) × (c : Check Refusal) × FirstAt (operandChecks a b f1 n1 f2 n2) r i c)
+  pub refused-exactly : (r : Refusal) → (checkedOf a b f1 n1 f2 n2 ≡ checked.Refused r) ↔ ((i : ℕ) × (c : Check Refusal) × FirstCheckAt (operandChecks a b f1 n1 f2 n2) r i c)
   unfolding checkedOf checkedBy
   refused-exactly r =
       (λ h. given-exactly (operandChecks a b f1 n1 f2 n2) r .0 (refused-is-first r (checkedOf a b f1 n1 f2 n2) refl h), λ f. rw (given-exactly (operandChecks a b f1 n1 f2 n2) r .1 f))
@@ -75,6 +75,6 @@ pub room-at : (s : List ℕ) (at floats numbers : ℕ) → at ≡ geometryStart 
 room-at s at floats numbers e r = rw e r
 
 -- both sides are written
-pub both-filled : (a b : List ℕ) (at1 at2 : ℕ) (f f′ g g′ : List Float) (t t′ u u′ : List ℕ) → at1 ≡ geometryStart a → at2 ≡ geometryStart b → Written (walkedRuns (walkOf allLevels a at1)) f t f′ t′ → Written (walkedRuns (walkOf allLevels b at2)) g u g′ u′ → workspaces f′ t′ g′ u′ ≡ filled a b (workspaces f t g u)
+pub both-filled : (a b : List ℕ) (at1 at2 : ℕ) (f f′ g g′ : List Float) (t t′ u u′ : List ℕ) → at1 ≡ geometryStart a → at2 ≡ geometryStart b → RunsWritten (walkedRuns (walkOf allLevels a at1)) f t f′ t′ → RunsWritten (walkedRuns (walkOf allLevels b at2)) g u g′ u′ → workspaces f′ t′ g′ u′ ≡ filled a b (workspaces f t g u)
 unfolding filled
 both-filled a b at1 at2 f f′ g g′ t t′ u u′ p q x y = rw (x .ordinates, x .rows, y .ordinates, y .rows, p, q)

@@ -19,7 +19,7 @@ use Rattle.primitives.specs.declared.Witness.{Witness}
 use Rattle.primitives.specs.Witnesses.{witnessOf, betweenOf}
 use Rattle.parts.specs.Points.{pointOf}
 use Rattle.extremes.specs.Pairs.{Pair, pairsOf}
-use Rattle.extremes.specs.Extreme.{measured, distanceOf, Counts, Holds}
+use Rattle.extremes.specs.Extreme.{measured, distanceOf, HasDistance, Holds}
 use Rattle.extremes.proofs.Lists.{Each, at-each, each-at}
 use Rattle.extremes.proofs.PairLists.{Sides, pairs-sides}
 use Rattle.extremes.proofs.Distances.{NoNan, counts-no-nan}
@@ -54,7 +54,7 @@ same-bits c p n =
     }
 
 -- the line of a pair that counts reads back as the pair
-pub pair-reads-back : (srid : ℕ) (p : Pair Coordinate) (output : List ℕ) → srid < 2 ^ 32 → Sides Patterns p → Counts (distanceOf pointOf) p → ReadsBack (lineAfter srid (some (measured pointOf p)) output) p
+pub pair-reads-back : (srid : ℕ) (p : Pair Coordinate) (output : List ℕ) → srid < 2 ^ 32 → Sides Patterns p → HasDistance (distanceOf pointOf) p → ReadsBack (lineAfter srid (some (measured pointOf p)) output) p
 unfolding lineAfter betweenOf witnessOf pointOf
 pair-reads-back srid p output small fit c =
     let n = counts-no-nan pointOf p c in

@@ -9,7 +9,7 @@ use native.Mathlib.Omega.{arith}
 use lib.Dec.{ltb}
 use lib.ListN.{length}
 use lib.Ieee.{Float}
-use Rattle.refusals.specs.Checks.{Check, firstOf, FirstAt}
+use Rattle.refusals.specs.Checks.{Check, firstOf, FirstCheckAt}
 use Rattle.refusals.specs.declared.Refusal.{Refusal}
 use Rattle.refusals.proofs.Checks.{given-exactly}
 use Rattle.refusals.proofs.Sides.{first-of-two, first-of-one}
@@ -19,7 +19,7 @@ use Rattle.outcomes.specs.Operations.{outcome, noSide, toleranceChecks, 
 
 -- the check that gives r holds, and no earlier one does
 abbrev pub First : List (Check Refusal) → Refusal → Type 0
-First cs r = (i : ℕ) × (c : Check Refusal) × FirstAt cs r i c
+First cs r = (i : ℕ) × (c : Check Refusal) × FirstCheckAt cs r i c
 
 same-refusal : (t r : Refusal) → refusing t ≡ refusing r → t ≡ r
 same-refusal t r e =

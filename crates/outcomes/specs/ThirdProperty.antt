@@ -41,7 +41,7 @@ pub record ReadsBack (output : List ℕ) (p : Pair Coordinate) : Type 0 where
 -- where there is no line and where one is written.
 module _ {R : Type 0} (noLine aLine : R) where
   -- the line is told, and reads back as the pair
-  pub record IsLine (told : R) (output : List ℕ) (p : Pair Coordinate) : Type 0 where
+  pub record LineBetween (told : R) (output : List ℕ) (p : Pair Coordinate) : Type 0 where
     pub is-told : told ≡ aLine
     pub reads-back : ReadsBack output p
 
@@ -50,7 +50,7 @@ module _ {R : Type 0} (noLine aLine : R) where
   -- every other pair that is no NaN stands in the order (at most: the longest; at least: the shortest), skipped ones included
   abbrev pub FirstExtremeLine : (Float → Float → Bool) → List ℕ → List ℕ → R → List ℕ → Type 0
   FirstExtremeLine order a b told output =
-      Holds (distanceOf pointOf) order (verticesOfBlob a) (verticesOfBlob b) (told ≡ noLine) (IsLine told output)
+      Holds (distanceOf pointOf) order (verticesOfBlob a) (verticesOfBlob b) (told ≡ noLine) (LineBetween told output)
 
   -- of an accepted longest-line call: `lent` is the output before it, `output` the one after
   pub record LongestOfAll (a b : List ℕ) (w : Workspaces) (lent : List ℕ) (told : R) (output : List ℕ) : Type 0 where

@@ -11,7 +11,7 @@ use Rattle.coords.specs.Parts.{Run, run, mapRuns, verticesOf}
 use Rattle.workspace.specs.Workspace.{floatsPerCoordinate, coordinateFloats, coordinatesFloats, runNumbers, floatsOf, tableOf}
 use Rattle.primitives.specs.declared.Point.{Point}
 use Rattle.parts.specs.Points.{pointOf}
-use Rattle.parts.specs.Stored.{pointAt, pointsFrom, runsFrom, storedRuns, pointCount, Laid}
+use Rattle.parts.specs.Stored.{storedPoint, pointsFrom, runsFrom, storedRuns, pointCount, Laid}
 use Rattle.coords.proofs.Parts.{vertices-map}
 use Rattle.workspace.proofs.Contents.{length-coordinatesFloats}
 
@@ -20,8 +20,8 @@ more-floats : (before : List Float) (c : Coordinate) (at : ℕ) → length befor
 unfolding coordinateFloats
 more-floats before c at e = simp length-append (omega arith)
 
-point-read : (before : List Float) (c : Coordinate) (after : List Float) (at : ℕ) → length before ≡ floatsPerCoordinate * at → pointAt (before ++ (coordinateFloats c ++ after)) at ≡ pointOf c
-unfolding pointAt pointOf coordinateFloats
+point-read : (before : List Float) (c : Coordinate) (after : List Float) (at : ℕ) → length before ≡ floatsPerCoordinate * at → storedPoint (before ++ (coordinateFloats c ++ after)) at ≡ pointOf c
+unfolding storedPoint pointOf coordinateFloats
 point-read before c after at e = rw (← e, getD-append-seam, getD-append-add, getD-append-add)
 
 points-read : (before : List Float) (cs : List Coordinate) (after : List Float) (at : ℕ) → length before ≡ floatsPerCoordinate * at → pointsFrom (before ++ (coordinatesFloats cs ++ after)) at (length cs) ≡ map pointOf cs

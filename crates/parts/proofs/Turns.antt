@@ -9,9 +9,9 @@ use lib.Seq.{drop-cons}
 use lib.Ieee.{Float}
 use Rattle.workspace.specs.Workspace.{floatsPerCoordinate, numbersPerRun}
 use Rattle.coords.specs.Parts.{run}
-use Rattle.parts.specs.Stored.{pointAt, pointsFrom, runsFrom, runCount, kindAt, countAt, pointCount, Laid}
+use Rattle.parts.specs.Stored.{storedPoint, pointsFrom, runsFrom, runCount, kindAt, countAt, pointCount, Laid}
 
-pub points-next : (floats : List Float) (at n : ℕ) → 0 < n → pointsFrom floats at n ≡ pointAt floats at ∷ pointsFrom floats (at + 1) (n - 1)
+pub points-next : (floats : List Float) (at n : ℕ) → 0 < n → pointsFrom floats at n ≡ storedPoint floats at ∷ pointsFrom floats (at + 1) (n - 1)
 unfolding pointsFrom
 points-next floats at zero h = absurd (omega arith)
 points-next floats at (suc n) h = rw sub-one

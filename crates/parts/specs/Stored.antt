@@ -8,8 +8,8 @@ use Rattle.workspace.specs.Workspace.{floatsPerCoordinate, numbersPerRun}
 use Rattle.primitives.specs.declared.Point.{Point}
 
 -- the point at place i: x, y, z
-unfoldable pub pointAt : List Float → ℕ → Point
-pointAt floats i =
+unfoldable pub storedPoint : List Float → ℕ → Point
+storedPoint floats i =
     record {
       x = getD floats (floatsPerCoordinate * i) nan;
       y = getD floats (floatsPerCoordinate * i + 1) nan;
@@ -19,7 +19,7 @@ pointAt floats i =
 -- the points at n places from at on
 unfoldable pub pointsFrom : List Float → ℕ → ℕ → List Point
 pointsFrom floats at zero = []
-pointsFrom floats at (suc n) = pointAt floats at ∷ pointsFrom floats (at + 1) n
+pointsFrom floats at (suc n) = storedPoint floats at ∷ pointsFrom floats (at + 1) n
 
 -- the runs of a table, kind and count for each, whose points start at place at
 unfoldable pub runsFrom : List Float → ℕ → List ℕ → List (Run Point)

@@ -6,7 +6,7 @@ ghost use mathlib.Core.Path.{_≡_};
 ghost use Prim.Native.Nat.{_+_, _*_, _≤_, _<_};
 ghost use lib.ListN.{length};
 ghost use Rattle.workspace.specs.Workspace.{floatsPerCoordinate};
-ghost use Rattle.parts.specs.Stored.{pointAt, runCount, kindAt, countAt};
+ghost use Rattle.parts.specs.Stored.{storedPoint, runCount, kindAt, countAt};
 ghost use Rattle.parts.specs.Classes.{runClass};
 
 // The classes of runs.
@@ -54,7 +54,7 @@ pub fn count_at(table: &[u32], r: usize) -> usize
 // The point at place i.
 pub fn point_at(floats: &[f64], i: usize) -> Point
     requires { ⌜ floatsPerCoordinate * (i + 1) ≤ length (now floats) ⌝ }
-    ensures { λ p. ⌜ p ≡ pointAt (now (floats .entry)) i ⌝ }
+    ensures { λ p. ⌜ p ≡ storedPoint (now (floats .entry)) i ⌝ }
 {
     let at = FLOATS_PER_COORDINATE * i;
     Point {

@@ -7,25 +7,25 @@ use mathlib.Core.List.{List, [], _∷_, _++_}
 use mathlib.Core.Option.{none, some, Option·none-ne-some, Option·some-injective}
 use native.Mathlib.Omega.{arith}
 use lib.ListN.{getElem?}
-use Rattle.refusals.specs.Checks.{Check, firstOf, FirstAt}
+use Rattle.refusals.specs.Checks.{Check, firstOf, FirstCheckAt}
 
 module _ {A : Type 0} where
-  given-is-first : (cs : List (Check A)) (a : A) → firstOf cs ≡ some a → (i : ℕ) × (c : Check A) × FirstAt cs a i c
+  given-is-first : (cs : List (Check A)) (a : A) → firstOf cs ≡ some a → (i : ℕ) × (c : Check A) × FirstCheckAt cs a i c
   unfolding firstOf
   given-is-first [] a h = absurd (Option·none-ne-some a h)
   given-is-first (c ∷ cs) a h = go (given-is-first cs a) (c .holds) refl h
     where
-      go : (firstOf cs ≡ some a → (i : ℕ) × (d : Check A) × FirstAt cs a i d) → (b : Bool) → c .holds ≡ b → cond b (some (c .gives)) (firstOf cs) ≡ some a → (i : ℕ) × (d : Check A) × FirstAt (c ∷ cs) a i d
+      go : (firstOf cs ≡ some a → (i : ℕ) × (d : Check A) × FirstCheckAt cs a i d) → (b : Bool) → c .holds ≡ b → cond b (some (c .gives)) (firstOf cs) ≡ some a → (i : ℕ) × (d : Check A) × FirstCheckAt (c ∷ cs) a i d
       go rest true e g = (0, c, record { there = refl; condition = e; given = Option·some-injective (c .gives) a g; earlier = λ j d l. absurd (omega (arith, l)) })
       go rest false e g =
           let r = rest g in
           (suc (r .0), r .1, record { there = r .2 .there; condition = r .2 .condition; given = r .2 .given; earlier = λ j d l at. before (r .2) j d l at })
         where
-          before : {i : ℕ} {x : Check A} → FirstAt cs a i x → (j : ℕ) (d : Check A) → j < suc i → getElem? (c ∷ cs) j ≡ some d → d .holds ≡ false
+          before : {i : ℕ} {x : Check A} → FirstCheckAt cs a i x → (j : ℕ) (d : Check A) → j < suc i → getElem? (c ∷ cs) j ≡ some d → d .holds ≡ false
           before f zero d l at = ap (λ (z : Check A). z .holds) (sym (Option·some-injective c d at)) ∙ e
           before f (suc j) d l at = f .earlier j d (omega (arith, l)) at
 
-  first-is-given : (cs : List (Check A)) (a : A) (i : ℕ) (c : Check A) → FirstAt cs a i c → firstOf cs ≡ some a
+  first-is-given : (cs : List (Check A)) (a : A) (i : ℕ) (c : Check A) → FirstCheckAt cs a i c → firstOf cs ≡ some a
   unfolding firstOf
   first-is-given [] a i c f = absurd (Option·none-ne-some c (f .there))
   first-is-given (d ∷ cs) a zero c f =
@@ -36,7 +36,7 @@ module _ {A : Type 0} where
       ∙ first-is-given cs a i c (record { there = f .there; condition = f .condition; given = f .given; earlier = λ j x l at. f .earlier (suc j) x (omega (arith, l)) at })
 
   -- a refusal is given exactly when a check gives it whose condition holds, and no earlier check refuses
-  pub given-exactly : (cs : List (Check A)) (a : A) → (firstOf cs ≡ some a) ↔ ((i : ℕ) × (c : Check A) × FirstAt cs a i c)
+  pub given-exactly : (cs : List (Check A)) (a : A) → (firstOf cs ≡ some a) ↔ ((i : ℕ) × (c : Check A) × FirstCheckAt cs a i c)
   given-exactly cs a = (given-is-first cs a, λ h. first-is-given cs a (h .0) (h .1) (h .2))
 
   -- checks that refuse nothing may stand before others

@@ -21,7 +21,7 @@ firstOf [] = none
 firstOf (c ∷ cs) = cond (c .holds) (some (c .gives)) (firstOf cs)
 
 -- the check at position i holds, gives a, and no earlier check holds
-pub record FirstAt {A : Type 0} (checks : List (Check A)) (a : A) (i : ℕ) (c : Check A) : Type 0 where
+pub record FirstCheckAt {A : Type 0} (checks : List (Check A)) (a : A) (i : ℕ) (c : Check A) : Type 0 where
   pub there : getElem? checks i ≡ some c
   pub condition : c .holds ≡ true
   pub given : c .gives ≡ a

@@ -7,7 +7,7 @@ use outcomes::Written;
 use refusals::Refusal;
 use surface::PatchRange;
 ghost use mathlib.Core.Path.{_≡_};
-ghost use Rattle.interpolation.specs.Operation.{reportOf};
+ghost use Rattle.interpolation.specs.Operation.{interpolatedReport};
 ghost use Rattle.outcomes.specs.Answers.{answerReport, decisionReport, writtenReport};
 ghost use Rattle.surface.specs.Patches.{patchValue};
 ghost use Rattle.replies.specs.Replies.{replyNothing, replyAnswered, replyRefused, replyOf};
@@ -115,7 +115,7 @@ pub fn reply_to_written(written: Written) -> Reply
 
 // The reply to an interpolated point.
 pub fn reply_to_interpolated(interpolated: Interpolated) -> Reply
-    ensures { λ r. ⌜ r ≡ replyOf (reportOf interpolated) ⌝ }
+    ensures { λ r. ⌜ r ≡ replyOf (interpolatedReport interpolated) ⌝ }
 {
     match interpolated {
         Interpolated::Blob => answered(0.0),

@@ -13,7 +13,7 @@ use Rattle.coords.specs.Walk.{Parsed, ok, refused, consParsed, andThen, times, 
 use Rattle.coords.specs.declared.ParsedHeader.{ParsedHeader}
 use Rattle.coords.specs.declared.ParsedHeader.the-variants as header
 use Rattle.surface.specs.Patches.{Range, Patch, part, nothing, refusing, rangeFrom, patchFrom, patchAt, patchesFrom, patchThere, patchIn, firstStart, listIn, patchScanned}
-use Rattle.surface.specs.Inner.{endOf, countFrom}
+use Rattle.surface.specs.Inner.{scanEnd, countFrom}
 use Rattle.surface.specs.declared.Scanned.the-variants as scanned
 use Rattle.surface.specs.declared.PatchList.the-variants as patch-list
 use Rattle.surface.specs.declared.PatchCount.the-variants as patch-count
@@ -28,26 +28,26 @@ abbrev pub partThen : Parsed Range → (ℕ → Parsed (List Range)) → Patch
 partThen (ok r end) g = scanThen (g end) (λ last. part (r .start) (r .end))
 partThen (refused k) g = refusing k 1
 
-pub scan-ends : {A : Type 0} (w : Parsed A) (g : ℕ → Patch) (e : ℕ) → endOf w ≡ scanned.Ends e → scanThen w g ≡ g e
-unfolding endOf
+pub scan-ends : {A : Type 0} (w : Parsed A) (g : ℕ → Patch) (e : ℕ) → scanEnd w ≡ scanned.Ends e → scanThen w g ≡ g e
+unfolding scanEnd
 scan-ends (refused k) g e p = let z : _≡_ {A = ℕ} 0 1 = cc in absurd (omega arith)
 scan-ends (ok a end) g e p = let y : end ≡ e = cc in ap g y
 
-pub scan-refused : {A : Type 0} (w : Parsed A) (g : ℕ → Patch) (k : ℕ) → endOf w ≡ scanned.Refused k → scanThen w g ≡ refusing k 1
-unfolding endOf
+pub scan-refused : {A : Type 0} (w : Parsed A) (g : ℕ → Patch) (k : ℕ) → scanEnd w ≡ scanned.Refused k → scanThen w g ≡ refusing k 1
+unfolding scanEnd
 scan-refused (refused j) g k p = let y : j ≡ k = cc in ap (λ (i : ℕ). refusing i 1) y
 scan-refused (ok a end) g k p = let z : _≡_ {A = ℕ} 0 1 = cc in absurd (omega arith)
 
 -- a patch that was scanned stands from where it was looked for to where scanning ended
-pub patch-ends : (s : List ℕ) (at e : ℕ) → endOf (patchAt s at) ≡ scanned.Ends e → patchAt s at ≡ ok (record { start = at; end = e }) e
-unfolding patchAt patchFrom rangeFrom endOf
+pub patch-ends : (s : List ℕ) (at e : ℕ) → scanEnd (patchAt s at) ≡ scanned.Ends e → patchAt s at ≡ ok (record { start = at; end = e }) e
+unfolding patchAt patchFrom rangeFrom scanEnd
 patch-ends s at e = go (headerAt s at)
   where
-    rings : {A : Type 0} (w : Parsed A) → endOf (rangeFrom at w) ≡ scanned.Ends e → rangeFrom at w ≡ ok (record { start = at; end = e }) e
+    rings : {A : Type 0} (w : Parsed A) → scanEnd (rangeFrom at w) ≡ scanned.Ends e → rangeFrom at w ≡ ok (record { start = at; end = e }) e
     rings (refused k) p = let z : _≡_ {A = ℕ} 0 1 = cc in absurd (omega arith)
     rings (ok a end) p = let y : end ≡ e = cc in rw y
 
-    go : (h : ParsedHeader) → endOf (patchFrom s at h) ≡ scanned.Ends e → patchFrom s at h ≡ ok (record { start = at; end = e }) e
+    go : (h : ParsedHeader) → scanEnd (patchFrom s at h) ≡ scanned.Ends e → patchFrom s at h ≡ ok (record { start = at; end = e }) e
     go (header.Refused k) p = let z : _≡_ {A = ℕ} 0 1 = cc in absurd (omega arith)
     go (header.Read h) p = rings (ringsAt h s (h .body)) p
 
@@ -96,30 +96,30 @@ module _ (f : ℕ → Parsed Range) where
       go (ok r e) ih = later-cons n r (inRow c e) ∙ (ih e ∙ sym (scan-cons r (inRow c e) _))
 
   -- what is answered, by what was scanned
-  pub past-refused : (count n at k : ℕ) → count ≤ n → endOf (inRow count at) ≡ scanned.Refused k → patchIn n (inRow count at) ≡ refusing k 1
+  pub past-refused : (count n at k : ℕ) → count ≤ n → scanEnd (inRow count at) ≡ scanned.Refused k → patchIn n (inRow count at) ≡ refusing k 1
   past-refused count n at k h p = past count n at h ∙ scan-refused (inRow count at) (λ last. nothing) k p
 
-  pub past-nothing : (count n at e : ℕ) → count ≤ n → endOf (inRow count at) ≡ scanned.Ends e → patchIn n (inRow count at) ≡ nothing
+  pub past-nothing : (count n at e : ℕ) → count ≤ n → scanEnd (inRow count at) ≡ scanned.Ends e → patchIn n (inRow count at) ≡ nothing
   past-nothing count n at e h p = past count n at h ∙ scan-ends (inRow count at) (λ last. nothing) e p
 
   abbrev from : ℕ → ℕ → ℕ → Patch
   from count n p = partThen (f p) (inRow (count - n - 1))
 
-  pub before-refused : (count n at k : ℕ) → n < count → endOf (inRow n at) ≡ scanned.Refused k → patchIn n (inRow count at) ≡ refusing k 1
+  pub before-refused : (count n at k : ℕ) → n < count → scanEnd (inRow n at) ≡ scanned.Refused k → patchIn n (inRow count at) ≡ refusing k 1
   before-refused count n at k h p = within count n at h ∙ scan-refused (inRow n at) (from count n) k p
 
-  pub itself-refused : (count n at start k : ℕ) → n < count → endOf (inRow n at) ≡ scanned.Ends start → endOf (f start) ≡ scanned.Refused k → patchIn n (inRow count at) ≡ refusing k 1
-  unfolding endOf
+  pub itself-refused : (count n at start k : ℕ) → n < count → scanEnd (inRow n at) ≡ scanned.Ends start → scanEnd (f start) ≡ scanned.Refused k → patchIn n (inRow count at) ≡ refusing k 1
+  unfolding scanEnd
   itself-refused count n at start k h p q = within count n at h ∙ (scan-ends (inRow n at) (from count n) start p ∙ go (f start) q)
     where
-      go : (w : Parsed Range) → endOf w ≡ scanned.Refused k → partThen w (inRow (count - n - 1)) ≡ refusing k 1
+      go : (w : Parsed Range) → scanEnd w ≡ scanned.Refused k → partThen w (inRow (count - n - 1)) ≡ refusing k 1
       go (ok r end) t = let z : _≡_ {A = ℕ} 0 1 = cc in absurd (omega arith)
       go (refused j) t = let y : j ≡ k = cc in ap (λ (i : ℕ). refusing i 1) y
 
-  pub rest-refused : (count n at start : ℕ) (r : Range) (end k : ℕ) → n < count → endOf (inRow n at) ≡ scanned.Ends start → f start ≡ ok r end → endOf (inRow (count - n - 1) end) ≡ scanned.Refused k → patchIn n (inRow count at) ≡ refusing k 1
+  pub rest-refused : (count n at start : ℕ) (r : Range) (end k : ℕ) → n < count → scanEnd (inRow n at) ≡ scanned.Ends start → f start ≡ ok r end → scanEnd (inRow (count - n - 1) end) ≡ scanned.Refused k → patchIn n (inRow count at) ≡ refusing k 1
   rest-refused count n at start r end k h p q t = within count n at h ∙ (scan-ends (inRow n at) (from count n) start p ∙ rw q (scan-refused (inRow (count - n - 1) end) (λ last. part (r .start) (r .end)) k t))
 
-  pub all-scanned : (count n at start : ℕ) (r : Range) (end last : ℕ) → n < count → endOf (inRow n at) ≡ scanned.Ends start → f start ≡ ok r end → endOf (inRow (count - n - 1) end) ≡ scanned.Ends last → patchIn n (inRow count at) ≡ part (r .start) (r .end)
+  pub all-scanned : (count n at start : ℕ) (r : Range) (end last : ℕ) → n < count → scanEnd (inRow n at) ≡ scanned.Ends start → f start ≡ ok r end → scanEnd (inRow (count - n - 1) end) ≡ scanned.Ends last → patchIn n (inRow count at) ≡ part (r .start) (r .end)
   all-scanned count n at start r end last h p q t = within count n at h ∙ (scan-ends (inRow n at) (from count n) start p ∙ rw q (scan-ends (inRow (count - n - 1) end) (λ last. part (r .start) (r .end)) last t))
 
   -- where the first starts, and how many there are
@@ -141,19 +141,19 @@ module _ (f : ℕ → Parsed Range) where
         go rest (ok r next) e = join r next (starts at r next e) (inRow c next) (rest next)
         go rest (refused k) e = tt
 
-    pub list-scanned : (count at e : ℕ) → endOf (inRow count at) ≡ scanned.Ends e → listIn (inRow count at) ≡ patch-list.Listed at count
-    unfolding Listed listIn endOf
+    pub list-scanned : (count at e : ℕ) → scanEnd (inRow count at) ≡ scanned.Ends e → listIn (inRow count at) ≡ patch-list.Listed at count
+    unfolding Listed listIn scanEnd
     list-scanned count at e = go (inRow count at) (row-listed count at)
       where
-        go : (w : Parsed (List Range)) → Listed count at w → endOf w ≡ scanned.Ends e → listIn w ≡ patch-list.Listed at count
+        go : (w : Parsed (List Range)) → Listed count at w → scanEnd w ≡ scanned.Ends e → listIn w ≡ patch-list.Listed at count
         go (ok rs end) l p = rw (l .0, l .1)
         go (refused k) l p = let z : _≡_ {A = ℕ} 0 1 = cc in absurd (omega arith)
 
-  pub list-refused : (count at k : ℕ) → endOf (inRow count at) ≡ scanned.Refused k → listIn (inRow count at) ≡ patch-list.Refused (record { number = k; side = 1 })
-  unfolding listIn endOf
+  pub list-refused : (count at k : ℕ) → scanEnd (inRow count at) ≡ scanned.Refused k → listIn (inRow count at) ≡ patch-list.Refused (record { number = k; side = 1 })
+  unfolding listIn scanEnd
   list-refused count at k = go (inRow count at)
     where
-      go : (w : Parsed (List Range)) → endOf w ≡ scanned.Refused k → listIn w ≡ patch-list.Refused (record { number = k; side = 1 })
+      go : (w : Parsed (List Range)) → scanEnd w ≡ scanned.Refused k → listIn w ≡ patch-list.Refused (record { number = k; side = 1 })
       go (ok rs end) p = let z : _≡_ {A = ℕ} 0 1 = cc in absurd (omega arith)
       go (refused j) p = let y : j ≡ k = cc in rw y
 
@@ -181,19 +181,19 @@ collection-counted s (header.Read h) first count p = go (ltb (length s) (h .body
 
 -- a patch starts where it was looked for
 pub patch-starts : (s : List ℕ) (at : ℕ) (r : Range) (end : ℕ) → patchAt s at ≡ ok r end → r .start ≡ at
-unfolding endOf
+unfolding scanEnd
 patch-starts s at r end e =
-    let is : patchAt s at ≡ ok (record { start = at; end = end }) end = patch-ends s at end (ap endOf e) in
+    let is : patchAt s at ≡ ok (record { start = at; end = end }) end = patch-ends s at end (ap scanEnd e) in
     let same : r ≡ record { start = at; end = end } = cc in
     ap (λ (x : Range). x .start) same
 
 -- what is answered for one patch
-pub scanned-part : (s : List ℕ) (at e : ℕ) → endOf (patchAt s at) ≡ scanned.Ends e → patchScanned (patchAt s at) ≡ part at e
+pub scanned-part : (s : List ℕ) (at e : ℕ) → scanEnd (patchAt s at) ≡ scanned.Ends e → patchScanned (patchAt s at) ≡ part at e
 unfolding patchScanned
 scanned-part s at e p = ap patchScanned (patch-ends s at e p)
 
-pub scanned-refusing : (w : Parsed Range) (k : ℕ) → endOf w ≡ scanned.Refused k → patchScanned w ≡ refusing k 1
-unfolding patchScanned endOf
+pub scanned-refusing : (w : Parsed Range) (k : ℕ) → scanEnd w ≡ scanned.Refused k → patchScanned w ≡ refusing k 1
+unfolding patchScanned scanEnd
 scanned-refusing (ok r end) k p = let z : _≡_ {A = ℕ} 0 1 = cc in absurd (omega arith)
 scanned-refusing (refused j) k p = let y : j ≡ k = cc in ap (λ (i : ℕ). refusing i 1) y
 

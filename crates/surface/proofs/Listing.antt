@@ -14,7 +14,7 @@ use Rattle.coords.specs.Walk.{Parsed, ok, refused, consParsed, andThen, times, 
 use Rattle.coords.specs.declared.ParsedHeader.{ParsedHeader}
 use Rattle.coords.specs.declared.ParsedHeader.the-variants as header
 use Rattle.surface.specs.Patches.{Range, patchAt, patchesFrom, surfaceKind, surfaceByKind, surfaceOf, part, patchThere, patchIn, patchOfSurface, patchOf, firstStart, listIn, listOfSurface, listOf, patchScanned, nextByKind, nextOf, Before}
-use Rattle.surface.specs.Inner.{endOf}
+use Rattle.surface.specs.Inner.{scanEnd}
 use Rattle.surface.specs.declared.SurfaceKind.{SurfaceKind}
 use Rattle.surface.specs.declared.SurfaceKind.the-variants as kind
 use Rattle.surface.specs.declared.PatchList.the-variants as patch-list
@@ -51,7 +51,7 @@ module _ (s : List ℕ) where
     next-scanned at left = simp (ne-eqb (suc left) 0 (λ z. omega (arith, z)), is)
 
     times-rowed : (n at : ℕ) → Rowed at (times _∷_ [] (patchAt s) n at)
-    unfolding times Row Rowed patchScanned endOf
+    unfolding times Row Rowed patchScanned scanEnd
     times-rowed zero at = refl
     times-rowed (suc n) at = go (times-rowed n) (patchAt s at) refl
       where
@@ -62,7 +62,7 @@ module _ (s : List ℕ) where
         go : ((next : ℕ) → Rowed next (times _∷_ [] (patchAt s) n next)) → (w : Parsed Range) → patchAt s at ≡ w → Rowed at (andThen _∷_ w (times _∷_ [] (patchAt s) n))
         go rest (refused k) e = tt
         go rest (ok r next) e =
-            let same : r .end ≡ next = cc (patch-ends s at next (ap endOf e)) in
+            let same : r .end ≡ next = cc (patch-ends s at next (ap scanEnd e)) in
             join r (patch-starts s at r next e) (λ left. next-scanned at left ∙ ap patchScanned e) (times _∷_ [] (patchAt s) n next) (rw same (rest next))
 
     collection-rowed : (h : ParsedHeader) → FromFirst (patchesFrom s h)

@@ -14,9 +14,9 @@ use Rattle.surface.specs.declared.PatchCount.{PatchCount}
 use Rattle.surface.specs.declared.PatchCount.the-variants as patch-count
 
 -- the end of what was read, or the refusal's number
-unfoldable pub endOf : {A : Type 0} → Parsed A → Scanned
-endOf (ok a end) = scanned.Ends end
-endOf (refused k) = scanned.Refused k
+unfoldable pub scanEnd : {A : Type 0} → Parsed A → Scanned
+scanEnd (ok a end) = scanned.Ends end
+scanEnd (refused k) = scanned.Refused k
 
 -- where the first patch of a collection starts, and the count
 unfoldable pub countFrom : List ℕ → ParsedHeader → PatchCount

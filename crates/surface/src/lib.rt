@@ -10,7 +10,7 @@ ghost use Rattle.coords.specs.Walk.{headerAt, times};
 ghost use Rattle.surface.specs.Patches.{patchAt, patchesFrom, surfaceKind, patchValue, refusing, part};
 ghost use Rattle.surface.specs.Patches.{patchIn, patchOf, bytesOf, listIn, listOf, nextOf};
 ghost use Rattle.surface.specs.Cursors.{nextBy, patchBy, bytesBy, StandsBefore};
-ghost use Rattle.surface.specs.Inner.{endOf, countFrom};
+ghost use Rattle.surface.specs.Inner.{scanEnd, countFrom};
 ghost use Rattle.surface.specs.declared.PatchRange.the-variants.{Part};
 ghost use Rattle.surface.specs.declared.PatchList.the-variants.{Listed};
 ghost use lib.ListN.{length};
@@ -68,7 +68,7 @@ fn surface_kind(s: &[u8]) -> SurfaceKind
 
 // The end of the patch at a position.
 fn scan_patch(s: &[u8], at: usize) -> Scanned
-    ensures { λ r. ⌜ r ≡ endOf (patchAt (now (s .entry)) at) ⌝ }
+    ensures { λ r. ⌜ r ≡ scanEnd (patchAt (now (s .entry)) at) ⌝ }
 {
     match coords::read_header(s, at) {
         ParsedHeader::Refused(k) => Scanned::Refused(k),
@@ -86,7 +86,7 @@ fn scan_patch(s: &[u8], at: usize) -> Scanned
 
 // The end of so many patches from a position on.
 fn scan_patches(s: &[u8], count: u64, at: usize) -> Scanned
-    ensures { λ r. ⌜ r ≡ endOf (times _∷_ [] (patchAt (now (s .entry))) count at) ⌝ }
+    ensures { λ r. ⌜ r ≡ scanEnd (times _∷_ [] (patchAt (now (s .entry))) count at) ⌝ }
 {
     let mut left = count;
     let mut next = at;
@@ -270,7 +270,7 @@ impl<'a> Cursor<'a> {
     }
 
     // Where the next patch stands: patch n, before which the cursor stands.
-    pub fn next(self) -> PatchRange
+    pub fn range(self) -> PatchRange
         ensures next { λ r. ⌜ patchValue r ≡ nextBy (self .entry) ⌝ }
         ensures patch_n { λ r. ⌜ ((n : ℕ) → StandsBefore (self .entry) n
             → patchValue r ≡ patchBy (self .entry) n) ⌝ }
@@ -278,7 +278,7 @@ impl<'a> Cursor<'a> {
         next_range(self.blob, self.at, self.left)
     }
 
-    // The bytes of the next patch: of patch n, before which the cursor stands. Empty where `next` tells no part.
+    // The bytes of the next patch: of patch n, before which the cursor stands. Empty where `range` tells no part.
     pub fn patch(self) -> &'a [u8]
         ensures next { λ r. ⌜ now r ≡ bytesBy (self .entry) (nextBy (self .entry)) ⌝ }
         ensures patch_n { λ r. ⌜ ((n : ℕ) → StandsBefore (self .entry) n

@@ -299,7 +299,7 @@ pub extern "C" fn viskorrel_patches(blob: &[u8]) -> PairReply
 fn next_of_cursor(blob: &[u8], at: usize, left: u64) -> PatchRange
     ensures { λ r. ⌜ patchValue r ≡ nextOf (now (blob .entry)) at left ⌝ }
 {
-    Cursor::new(blob, at, left).next()
+    Cursor::new(blob, at, left).range()
 }
 
 // Where the next patch from a position on stands, with so many left: start, then end. It alone is scanned.

@@ -10,8 +10,8 @@ use Rattle.fields.proofs.Stores.{sets-front}
 use Rattle.coords.specs.Walk.{Geometry, Parsed, ok, refused, mapParsed}
 use Rattle.coords.specs.Parts.{runsOf, walkedRuns}
 use Rattle.coords.specs.Refusals.{isAccepted}
-use Rattle.workspace.specs.Workspace.{floatsOf, tableOf, floatsNeeded, numbersNeeded, floatsWith, tableWith, Room, Written}
-use Rattle.workspace.specs.Inner.{floatsAfter, tableAfter, Ready, Filled}
+use Rattle.workspace.specs.Workspace.{floatsOf, tableOf, floatsNeeded, numbersNeeded, floatsWith, tableWith, Room, RunsWritten}
+use Rattle.workspace.specs.Inner.{floatsAfter, tableAfter, ReadyToFill, Filled}
 use Rattle.workspace.specs.declared.Progress.{Progress}
 use Rattle.workspace.proofs.Contents.{length-floats, length-table}
 
@@ -19,12 +19,12 @@ use Rattle.workspace.proofs.Contents.{length-floats, length-table}
 abbrev pub atStart : ℕ → Progress
 atStart at = record { coords = 0; runs = 0; next = at }
 
-pub room-is-ready : (w : Parsed Geometry) (at floats numbers : ℕ) → Room w floats numbers → Ready (mapParsed runsOf w) (atStart at) floats numbers
-unfolding mapParsed Ready isAccepted walkedRuns
+pub room-is-ready : (w : Parsed Geometry) (at floats numbers : ℕ) → Room w floats numbers → ReadyToFill (mapParsed runsOf w) (atStart at) floats numbers
+unfolding mapParsed ReadyToFill isAccepted walkedRuns
 room-is-ready (refused k) at floats numbers r = absurd (true≢false (sym (r .accepted)))
 room-is-ready (ok g end) at floats numbers r = (omega (arith, r .for-floats), omega (arith, r .for-numbers))
 
-pub filled-is-written : (w : Parsed Geometry) (at : ℕ) (fs fs′ : List Float) (ts ts′ : List ℕ) (r : Progress) → Room w (length fs) (length ts) → Filled (mapParsed runsOf w) (atStart at) fs ts fs′ ts′ r → Written (walkedRuns w) fs ts fs′ ts′
+pub filled-is-written : (w : Parsed Geometry) (at : ℕ) (fs fs′ : List Float) (ts ts′ : List ℕ) (r : Progress) → Room w (length fs) (length ts) → Filled (mapParsed runsOf w) (atStart at) fs ts fs′ ts′ r → RunsWritten (walkedRuns w) fs ts fs′ ts′
 unfolding mapParsed isAccepted walkedRuns floatsAfter tableAfter floatsWith tableWith
 filled-is-written (refused k) at fs fs′ ts ts′ r room f = absurd (true≢false (sym (room .accepted)))
 filled-is-written (ok g end) at fs fs′ ts ts′ r room f =

@@ -21,18 +21,18 @@ use Rattle.coords.proofs.Runs.{rings-runs, members-runs}
 use Rattle.coords.proofs.Loops.{coords-append}
 use Rattle.workspace.specs.declared.Progress.{Progress}
 use Rattle.workspace.specs.Workspace.{floatsPerCoordinate, numbersPerRun, floatsOf, tableOf}
-use Rattle.workspace.specs.Inner.{floatsAfter, tableAfter, progressAfter, Ready, Filled}
+use Rattle.workspace.specs.Inner.{floatsAfter, tableAfter, progressAfter, ReadyToFill, Filled}
 use Rattle.workspace.proofs.Contents.{length-floats, floats-append, length-table, table-append}
 use Rattle.workspace.proofs.Runs.{passed}
 
 -- what is left to write after q comes to what was to be written after p
 pub record Turn (all rest : ParsedRuns) (p q : Progress) (fs : List Float) (ts : List ℕ) (fs′ : List Float) (ts′ : List ℕ) (lf lt : ℕ) : Type 0 where
-  pub ready : Ready rest q lf lt
+  pub ready : ReadyToFill rest q lf lt
   pub progress : progressAfter all p ≡ progressAfter rest q
   pub ordinates : floatsAfter all p fs ≡ floatsAfter rest q fs′
   pub rows : tableAfter all p ts ≡ tableAfter rest q ts′
 
-pub turn-none : (w : ParsedRuns) (p : Progress) (fs : List Float) (ts : List ℕ) (lf lt : ℕ) → Ready w p lf lt → Turn w w p p fs ts fs ts lf lt
+pub turn-none : (w : ParsedRuns) (p : Progress) (fs : List Float) (ts : List ℕ) (lf lt : ℕ) → ReadyToFill w p lf lt → Turn w w p p fs ts fs ts lf lt
 turn-none w p fs ts lf lt r = record { ready = r; progress = refl; ordinates = refl; rows = refl }
 
 floats-on : (rs qs : List (Run Coordinate)) (l : List Float) (n : ℕ) → sets l (floatsPerCoordinate * n) (floatsOf (rs ++ qs)) ≡ sets (sets l (floatsPerCoordinate * n) (floatsOf rs)) (floatsPerCoordinate * (n + coordinateCount rs)) (floatsOf qs)
@@ -46,8 +46,8 @@ table-on rs qs l n =
     ap (λ (x : List ℕ). sets l (numbersPerRun * n) x) (table-append rs qs) ∙ (sets-append (tableOf rs) (tableOf qs) l (numbersPerRun * n) ∙ ap (λ (k : ℕ). sets (sets l (numbersPerRun * n) (tableOf rs)) k (tableOf qs)) e)
 
 -- rs is written, and w is what follows it
-turn-prepend : (rs : List (Run Coordinate)) (w : ParsedRuns) (p : Progress) (e : ℕ) (fs : List Float) (ts : List ℕ) (lf lt : ℕ) → Ready (consParsed _++_ rs w) p lf lt → Turn (consParsed _++_ rs w) w p (record { coords = p .coords + coordinateCount rs; runs = p .runs + length rs; next = e }) fs ts (sets fs (floatsPerCoordinate * p .coords) (floatsOf rs)) (sets ts (numbersPerRun * p .runs) (tableOf rs)) lf lt
-unfolding Ready progressAfter floatsAfter tableAfter
+turn-prepend : (rs : List (Run Coordinate)) (w : ParsedRuns) (p : Progress) (e : ℕ) (fs : List Float) (ts : List ℕ) (lf lt : ℕ) → ReadyToFill (consParsed _++_ rs w) p lf lt → Turn (consParsed _++_ rs w) w p (record { coords = p .coords + coordinateCount rs; runs = p .runs + length rs; next = e }) fs ts (sets fs (floatsPerCoordinate * p .coords) (floatsOf rs)) (sets ts (numbersPerRun * p .runs) (tableOf rs)) lf lt
+unfolding ReadyToFill progressAfter floatsAfter tableAfter
 turn-prepend rs (refused k) p e fs ts lf lt r = absurd r
 turn-prepend rs (ok qs e′) p e fs ts lf lt r =
     record {
@@ -57,27 +57,27 @@ turn-prepend rs (ok qs e′) p e fs ts lf lt r =
       rows = table-on rs qs ts (p .runs);
     }
 
-turn-then : (w : ParsedRuns) (g : ℕ → ParsedRuns) (p q : Progress) (fs fs′ : List Float) (ts ts′ : List ℕ) (lf lt : ℕ) → Ready (andThen _++_ w g) p lf lt → Filled w p fs ts fs′ ts′ q → Turn (andThen _++_ w g) (g (q .next)) p q fs ts fs′ ts′ lf lt
-unfolding Ready progressAfter floatsAfter tableAfter
+turn-then : (w : ParsedRuns) (g : ℕ → ParsedRuns) (p q : Progress) (fs fs′ : List Float) (ts ts′ : List ℕ) (lf lt : ℕ) → ReadyToFill (andThen _++_ w g) p lf lt → Filled w p fs ts fs′ ts′ q → Turn (andThen _++_ w g) (g (q .next)) p q fs ts fs′ ts′ lf lt
+unfolding ReadyToFill progressAfter floatsAfter tableAfter
 turn-then (refused k) g p q fs fs′ ts ts′ lf lt r f = absurd r
 turn-then (ok rs e) g p q fs fs′ ts ts′ lf lt r f =
     rw (f .progress, f .ordinates, f .rows) (turn-prepend rs (g e) p e fs ts lf lt r)
 
-ready-then : (w : ParsedRuns) (g : ℕ → ParsedRuns) (p : Progress) (lf lt : ℕ) → Ready (andThen _++_ w g) p lf lt → Ready w p lf lt
-unfolding Ready
+ready-then : (w : ParsedRuns) (g : ℕ → ParsedRuns) (p : Progress) (lf lt : ℕ) → ReadyToFill (andThen _++_ w g) p lf lt → ReadyToFill w p lf lt
+unfolding ReadyToFill
 ready-then (refused k) g p lf lt r = absurd r
 ready-then (ok rs e) g p lf lt r = go (g e) r
   where
-    go : (w : ParsedRuns) → Ready (consParsed _++_ rs w) p lf lt → Ready (ok rs e) p lf lt
+    go : (w : ParsedRuns) → ReadyToFill (consParsed _++_ rs w) p lf lt → ReadyToFill (ok rs e) p lf lt
     go (refused k) r′ = absurd r′
     go (ok qs e′) r′ = (omega (arith, r′ .0, coords-append rs qs), omega (arith, r′ .1, length-append rs qs))
 
-pub first-ready : (f : ℕ → ParsedRuns) (left at : ℕ) (p : Progress) (lf lt : ℕ) → 0 < left → Ready (times _++_ [] f left at) p lf lt → Ready (f at) p lf lt
+pub first-ready : (f : ℕ → ParsedRuns) (left at : ℕ) (p : Progress) (lf lt : ℕ) → 0 < left → ReadyToFill (times _++_ [] f left at) p lf lt → ReadyToFill (f at) p lf lt
 unfolding times
 first-ready f zero at p lf lt h r = absurd (omega arith)
 first-ready f (suc n) at p lf lt h r = ready-then (f at) (times _++_ [] f n) p lf lt r
 
-one-turn : (f : ℕ → ParsedRuns) (left : ℕ) (p q : Progress) (fs fs′ : List Float) (ts ts′ : List ℕ) (lf lt : ℕ) → 0 < left → Ready (times _++_ [] f left (p .next)) p lf lt → Filled (f (p .next)) p fs ts fs′ ts′ q → Turn (times _++_ [] f left (p .next)) (times _++_ [] f (left - 1) (q .next)) p q fs ts fs′ ts′ lf lt
+one-turn : (f : ℕ → ParsedRuns) (left : ℕ) (p q : Progress) (fs fs′ : List Float) (ts ts′ : List ℕ) (lf lt : ℕ) → 0 < left → ReadyToFill (times _++_ [] f left (p .next)) p lf lt → Filled (f (p .next)) p fs ts fs′ ts′ q → Turn (times _++_ [] f left (p .next)) (times _++_ [] f (left - 1) (q .next)) p q fs ts fs′ ts′ lf lt
 unfolding times
 one-turn f zero p q fs fs′ ts ts′ lf lt h r d = absurd (omega arith)
 one-turn f (suc n) p q fs fs′ ts ts′ lf lt h r d = rw sub-one (turn-then (f (p .next)) (times _++_ [] f n) p q fs fs′ ts ts′ lf lt r d)
@@ -93,22 +93,22 @@ last-turn f all left o p xs fs ys ts lf lt e a =
     let b = rw e at a in
     record { progress = sym (b .progress ∙ simp add-zero); ordinates = sym (b .ordinates); rows = sym (b .rows) }
 
-list-inside : (f : ℕ → ParsedRuns) (little : Bool) (s : List ℕ) (at : ℕ) (p : Progress) (lf lt : ℕ) → Ready (listAt _++_ [] f little s at) p lf lt → at + 4 ≤ length s
+list-inside : (f : ℕ → ParsedRuns) (little : Bool) (s : List ℕ) (at : ℕ) (p : Progress) (lf lt : ℕ) → ReadyToFill (listAt _++_ [] f little s at) p lf lt → at + 4 ≤ length s
 unfolding listAt
 list-inside f little s at p lf lt r = ltb-false (length s) (at + 4) (passed (ltb (length s) (at + 4)) _ p lf lt r)
 
-list-is : (f : ℕ → ParsedRuns) (little : Bool) (s : List ℕ) (at : ℕ) (p : Progress) (lf lt : ℕ) → Ready (listAt _++_ [] f little s at) p lf lt → listAt _++_ [] f little s at ≡ times _++_ [] f (u32At little s at) (at + 4)
+list-is : (f : ℕ → ParsedRuns) (little : Bool) (s : List ℕ) (at : ℕ) (p : Progress) (lf lt : ℕ) → ReadyToFill (listAt _++_ [] f little s at) p lf lt → listAt _++_ [] f little s at ≡ times _++_ [] f (u32At little s at) (at + 4)
 unfolding listAt
 list-is f little s at p lf lt r = rw (passed (ltb (length s) (at + 4)) _ p lf lt r)
 
-pub rings-inside : (h : WkbHeader) (s : List ℕ) (at : ℕ) (p : Progress) (lf lt : ℕ) → Ready (ringsAtRuns h s at) p lf lt → at + 4 ≤ length s
+pub rings-inside : (h : WkbHeader) (s : List ℕ) (at : ℕ) (p : Progress) (lf lt : ℕ) → ReadyToFill (ringsAtRuns h s at) p lf lt → at + 4 ≤ length s
 rings-inside h s at p lf lt r = list-inside (lineRuns h s) (h .little) s at p lf lt (rw (rings-runs h s at) at r)
 
-pub rings-are : (h : WkbHeader) (s : List ℕ) (at : ℕ) (p : Progress) (lf lt : ℕ) → Ready (ringsAtRuns h s at) p lf lt → ringsAtRuns h s at ≡ times _++_ [] (lineRuns h s) (u32At (h .little) s at) (at + 4)
+pub rings-are : (h : WkbHeader) (s : List ℕ) (at : ℕ) (p : Progress) (lf lt : ℕ) → ReadyToFill (ringsAtRuns h s at) p lf lt → ringsAtRuns h s at ≡ times _++_ [] (lineRuns h s) (u32At (h .little) s at) (at + 4)
 rings-are h s at p lf lt r = rings-runs h s at ∙ list-is (lineRuns h s) (h .little) s at p lf lt (rw (rings-runs h s at) at r)
 
-pub members-inside : (levels : ℕ) (little : Bool) (s : List ℕ) (at : ℕ) (p : Progress) (lf lt : ℕ) → Ready (membersAtRuns levels little s at) p lf lt → at + 4 ≤ length s
+pub members-inside : (levels : ℕ) (little : Bool) (s : List ℕ) (at : ℕ) (p : Progress) (lf lt : ℕ) → ReadyToFill (membersAtRuns levels little s at) p lf lt → at + 4 ≤ length s
 members-inside levels little s at p lf lt r = list-inside (walkRuns levels s) little s at p lf lt (rw (members-runs levels little s at) at r)
 
-pub members-are : (levels : ℕ) (little : Bool) (s : List ℕ) (at : ℕ) (p : Progress) (lf lt : ℕ) → Ready (membersAtRuns levels little s at) p lf lt → membersAtRuns levels little s at ≡ times _++_ [] (walkRuns levels s) (u32At little s at) (at + 4)
+pub members-are : (levels : ℕ) (little : Bool) (s : List ℕ) (at : ℕ) (p : Progress) (lf lt : ℕ) → ReadyToFill (membersAtRuns levels little s at) p lf lt → membersAtRuns levels little s at ≡ times _++_ [] (walkRuns levels s) (u32At little s at) (at + 4)
 members-are levels little s at p lf lt r = members-runs levels little s at ∙ list-is (walkRuns levels s) little s at p lf lt (rw (members-runs levels little s at) at r)

@@ -27,9 +27,9 @@ progressAfter (ok rs end) p = record { coords = p .coords + coordinateCount rs; 
 progressAfter (refused k) p = record { coords = p .coords; runs = p .runs; next = 0 }
 
 -- the walk refuses nothing, and there is room for what it reads
-unfoldable pub Ready : ParsedRuns → Progress → ℕ → ℕ → Type 0
-Ready (ok rs end) p floats table = (floatsPerCoordinate * (p .coords + coordinateCount rs) ≤ floats) × (numbersPerRun * (p .runs + length rs) ≤ table)
-Ready (refused k) p floats table = ⊥
+unfoldable pub ReadyToFill : ParsedRuns → Progress → ℕ → ℕ → Type 0
+ReadyToFill (ok rs end) p floats table = (floatsPerCoordinate * (p .coords + coordinateCount rs) ≤ floats) × (numbersPerRun * (p .runs + length rs) ≤ table)
+ReadyToFill (refused k) p floats table = ⊥
 
 -- the runs of w are written after p: floats and table before and after, and the progress after
 pub record Filled (w : ParsedRuns) (p : Progress) (floats : List Float) (table : List ℕ) (floats′ : List Float) (table′ : List ℕ) (r : Progress) : Type 0 where

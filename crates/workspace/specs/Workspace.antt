@@ -72,6 +72,6 @@ pub record Room (w : Parsed Geometry) (floats numbers : ℕ) : Type 0 where
   pub for-numbers : numbersNeeded (walkedRuns w) ≤ numbers
 
 -- the runs are written: floats and table before and after
-pub record Written (rs : List (Run Coordinate)) (floats : List Float) (table : List ℕ) (floats′ : List Float) (table′ : List ℕ) : Type 0 where
+pub record RunsWritten (rs : List (Run Coordinate)) (floats : List Float) (table : List ℕ) (floats′ : List Float) (table′ : List ℕ) : Type 0 where
   pub ordinates : floats′ ≡ floatsWith rs floats
   pub rows : table′ ≡ tableWith rs table

@@ -12,8 +12,8 @@ ghost use lib.Ieee.{binary64, ofBits};
 ghost use Rattle.coords.specs.Walk.{stride, strideOf, ordinateIf, coordinateAt, coordinatesFrom, allLevels, walkOf};
 ghost use Rattle.coords.specs.Parts.{walkedRuns};
 ghost use Rattle.coords.specs.Inner.{coordinatesRuns, lineRuns, ringsAtRuns, membersAtRuns, walkRuns};
-ghost use Rattle.workspace.specs.Workspace.{floatsPerCoordinate, coordinateFloats, coordinatesFloats, tooSmallFor, Room, Written};
-ghost use Rattle.workspace.specs.Inner.{Ready, Filled};
+ghost use Rattle.workspace.specs.Workspace.{floatsPerCoordinate, coordinateFloats, coordinatesFloats, tooSmallFor, Room, RunsWritten};
+ghost use Rattle.workspace.specs.Inner.{ReadyToFill, Filled};
 
 // The floats of a coordinate.
 pub const FLOATS_PER_COORDINATE: usize = 3;
@@ -78,7 +78,7 @@ fn fill_run(
     floats: &mut [f64],
     table: &mut [u32],
 ) -> Progress
-    requires { ⌜ Ready (coordinatesRuns h (now s) n (p .next)) p (length (now floats)) (length (now table)) ⌝ }
+    requires { ⌜ ReadyToFill (coordinatesRuns h (now s) n (p .next)) p (length (now floats)) (length (now table)) ⌝ }
     ensures { λ r. ⌜ Filled (coordinatesRuns h (now (s .entry)) n (p .next)) p (now (floats .entry)) (now (table .entry)) (now (floats .exit)) (now (table .exit)) r ⌝ }
 {
     let count = n as usize;
@@ -112,7 +112,7 @@ fn fill_point(
     floats: &mut [f64],
     table: &mut [u32],
 ) -> Progress
-    requires { ⌜ Ready (coordinatesRuns h (now s) 1 (p .next)) p (length (now floats)) (length (now table)) ⌝ }
+    requires { ⌜ ReadyToFill (coordinatesRuns h (now s) 1 (p .next)) p (length (now floats)) (length (now table)) ⌝ }
     ensures { λ r. ⌜ Filled (coordinatesRuns h (now (s .entry)) 1 (p .next)) p (now (floats .entry)) (now (table .entry)) (now (floats .exit)) (now (table .exit)) r ⌝ }
 {
     let at = p.next;
@@ -132,7 +132,7 @@ fn fill_point(
 
 // A count, and as many coordinates.
 fn fill_line(s: &[u8], h: WkbHeader, p: Progress, floats: &mut [f64], table: &mut [u32]) -> Progress
-    requires { ⌜ Ready (lineRuns h (now s) (p .next)) p (length (now floats)) (length (now table)) ⌝ }
+    requires { ⌜ ReadyToFill (lineRuns h (now s) (p .next)) p (length (now floats)) (length (now table)) ⌝ }
     ensures { λ r. ⌜ Filled (lineRuns h (now (s .entry)) (p .next)) p (now (floats .entry)) (now (table .entry)) (now (floats .exit)) (now (table .exit)) r ⌝ }
 {
     let at = p.next;
@@ -153,7 +153,7 @@ fn fill_rings(
     floats: &mut [f64],
     table: &mut [u32],
 ) -> Progress
-    requires { ⌜ Ready (ringsAtRuns h (now s) (p .next)) p (length (now floats)) (length (now table)) ⌝ }
+    requires { ⌜ ReadyToFill (ringsAtRuns h (now s) (p .next)) p (length (now floats)) (length (now table)) ⌝ }
     ensures { λ r. ⌜ Filled (ringsAtRuns h (now (s .entry)) (p .next)) p (now (floats .entry)) (now (table .entry)) (now (floats .exit)) (now (table .exit)) r ⌝ }
 {
     let at = p.next;
@@ -179,7 +179,7 @@ fn fill_members(
     floats: &mut [f64],
     table: &mut [u32],
 ) -> Progress
-    requires { ⌜ Ready (membersAtRuns levels little (now s) (p .next)) p (length (now floats)) (length (now table)) ⌝ }
+    requires { ⌜ ReadyToFill (membersAtRuns levels little (now s) (p .next)) p (length (now floats)) (length (now table)) ⌝ }
     ensures { λ r. ⌜ Filled (membersAtRuns levels little (now (s .entry)) (p .next)) p (now (floats .entry)) (now (table .entry)) (now (floats .exit)) (now (table .exit)) r ⌝ }
 {
     let at = p.next;
@@ -204,7 +204,7 @@ fn fill_geometry(
     floats: &mut [f64],
     table: &mut [u32],
 ) -> Progress
-    requires { ⌜ Ready (walkRuns levels (now s) (p .next)) p (length (now floats)) (length (now table)) ⌝ }
+    requires { ⌜ ReadyToFill (walkRuns levels (now s) (p .next)) p (length (now floats)) (length (now table)) ⌝ }
     ensures { λ r. ⌜ Filled (walkRuns levels (now (s .entry)) (p .next)) p (now (floats .entry)) (now (table .entry)) (now (floats .exit)) (now (table .exit)) r ⌝ }
 {
     if levels == 0 {
@@ -244,7 +244,7 @@ pub fn too_small(coords: usize, runs: usize, floats: usize, numbers: usize) -> b
 // The geometry at a position, as the top, into lent memory that has room for it.
 pub fn fill(s: &[u8], at: usize, floats: &mut [f64], table: &mut [u32])
     requires { ⌜ Room (walkOf allLevels (now s) at) (length (now floats)) (length (now table)) ⌝ }
-    ensures { λ _. ⌜ Written (walkedRuns (walkOf allLevels (now (s .entry)) at)) (now (floats .entry)) (now (table .entry)) (now (floats .exit)) (now (table .exit)) ⌝ }
+    ensures { λ _. ⌜ RunsWritten (walkedRuns (walkOf allLevels (now (s .entry)) at)) (now (floats .entry)) (now (table .entry)) (now (floats .exit)) (now (table .exit)) ⌝ }
 {
     let start = Progress {
         coords: 0,

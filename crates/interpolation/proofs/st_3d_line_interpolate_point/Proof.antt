@@ -3,7 +3,7 @@ use mathlib.Core.List.{[]}
 use Rattle.operands.specs.Operands.{workspaces}
 use Rattle.interpolation.proofs.Order.{is-accepted}
 use Rattle.interpolation.proofs.Outcome.{outcome-refused, outcome-written}
-use Rattle.interpolation.specs.Operation.{reportOf}
+use Rattle.interpolation.specs.Operation.{interpolatedReport}
 use borrow.Author.Needs.{needs}
 use Rattle.interpolation.proofs.st_3d_line_interpolate_point.Statement.{statement}
 use Rattle.interpolation.proofs.st_3d_line_interpolate_point.Tie as tie
@@ -28,7 +28,7 @@ write-point-requires c κs =
     is-accepted (start .args .s .now) (start .args .fraction) _ _ _ _ _ _ _ _ (c .before .before .before .before .before .before .before .before .before .before .before .check .ensures) ((c .before .before .before .before .before .before .before .before .before .at .given) .1) .room-for-point
 
 returns : tie.Need-returns
-unfolding reportOf
+unfolding interpolatedReport
 returns c =
     let start = c .before .before .before .before .before .before .before .before in
     outcome-refused (start .args .s .now) (start .args .fraction) (workspaces (start .args .floats .now) (start .args .table .now) [] []) _ _ _ (c .before .before .before .check .ensures) ((c .before .refusal .given) .1)
@@ -43,7 +43,7 @@ same-length-3 : tie.Need-same-length-3
 same-length-3 c = search needs
 
 returns-2 : tie.Need-returns-2
-unfolding reportOf
+unfolding interpolatedReport
 returns-2 c =
     let start = c .before .before .before .before .before .before .before .before .before .before .before .before .before .before .before .before .before .before .before in
     outcome-written (start .args .s .now) (start .args .fraction) (workspaces (start .args .floats .now) (start .args .table .now) [] []) _ _ _ _ _ (is-accepted (start .args .s .now) (start .args .fraction) _ _ _ _ _ _ _ _ (c .before .before .before .before .before .before .before .before .before .before .before .before .before .before .check .ensures) ((c .before .before .before .before .before .before .before .before .before .before .before .before .at .given) .1)) _ _ _ (c .before .before .before .before .before .before .before .before .read-point .ensures) _ (c .before .before .write-point .ensures)

@@ -2,14 +2,14 @@
 use Rattle.coords.specs.Parts.{ringsRuns}
 use mathlib.Core.Path.{sym}
 use Rattle.surface.proofs.Scans.{counted-refused, counted-ends}
-use Rattle.surface.specs.Inner.{endOf}
+use Rattle.surface.specs.Inner.{scanEnd}
 use Rattle.surface.specs.Patches.{patchAt, patchFrom}
 use borrow.Author.Needs.{needs}
 use Rattle.surface.proofs.scan_patch.Statement.{statement}
 use Rattle.surface.proofs.scan_patch.Tie as tie
 
 returns : tie.Need-returns
-unfolding patchAt patchFrom endOf
+unfolding patchAt patchFrom scanEnd
 returns c = rw (← (c .before .before .before .read-header .ensures), (c .before .k .given) .1)
 
 returns-2 : tie.Need-returns-2

@@ -1,6 +1,6 @@
 -- `surface::scan_patches` meets its contract. Assumes nothing.
 use Rattle.surface.proofs.Scans.{turn-ends, turn-refused, turns-end}
-use Rattle.surface.specs.Inner.{endOf}
+use Rattle.surface.specs.Inner.{scanEnd}
 use Rattle.surface.specs.Patches.{patchAt}
 use Rattle.coords.specs.Walk.{times}
 use mathlib.Core.List.{[], _∷_}
@@ -11,7 +11,7 @@ use Rattle.surface.proofs.scan_patches.Statement.{statement}
 use Rattle.surface.proofs.scan_patches.Tie as tie
 
 abbrev Inv-loop : tie.InvT-loop
-Inv-loop s count at left₀ next₀ left next = endOf (times _∷_ [] (patchAt s) left₀ next₀) ≡ endOf (times _∷_ [] (patchAt s) left next)
+Inv-loop s count at left₀ next₀ left next = scanEnd (times _∷_ [] (patchAt s) left₀ next₀) ≡ scanEnd (times _∷_ [] (patchAt s) left next)
 
 abbrev μ-loop : tie.MeasureT-loop
 μ-loop s count at left₀ next₀ left next = left

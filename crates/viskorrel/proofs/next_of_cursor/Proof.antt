@@ -1,4 +1,4 @@
--- `viskorrel::next_of_cursor` meets its contract: a walk of its MIR, by hand. A `Cursor` that one call returns is held in a local and passed to the next. All that the proof knows of `Cursor::new` and of `Cursor::next` is that each meets its contract.
+-- `viskorrel::next_of_cursor` meets its contract: a walk of its MIR, by hand. A `Cursor` that one call returns is held in a local and passed to the next. All that the proof knows of `Cursor::new` and of `Cursor::range` is that each meets its contract.
 -- The machine value that `new` returns is stored and passed on as it is. In a local of a body MIR erases the lifetime of the struct's type, so the value is shown to have the type at `erased`: what the struct owns does not say the lifetime's name.
 -- Assumes nothing.
 use mathlib.Core.Path.{_≡_, refl, ap, _∙_}
@@ -20,10 +20,10 @@ use Rattle.surface.proofs.Cursor.new as new
 use Rattle.surface.proofs.Cursor.new.Symbol as new-def
 use Rattle.surface.proofs.Cursor.new.Symbol.{name as #surface·new}
 use Rattle.surface.proofs.Cursor.new.Met as new-thm
-use Rattle.surface.proofs.Cursor.next as method
-use Rattle.surface.proofs.Cursor.next.Symbol as method-def
-use Rattle.surface.proofs.Cursor.next.Symbol.{name as #surface·Cursor·next}
-use Rattle.surface.proofs.Cursor.next.Met as method-thm
+use Rattle.surface.proofs.Cursor.range as method
+use Rattle.surface.proofs.Cursor.range.Symbol as method-def
+use Rattle.surface.proofs.Cursor.range.Symbol.{name as #surface·Cursor·range}
+use Rattle.surface.proofs.Cursor.range.Met as method-thm
 use Rattle.viskorrel.proofs.next_of_cursor.Key.{name as #viskorrel·next-of-cursor}
 use Rattle.viskorrel.proofs.next_of_cursor as thin
 use Rattle.viskorrel.proofs.next_of_cursor.Statement as stated
@@ -83,7 +83,7 @@ module _ {M : Type 1} (𝓤 : URA M) (H : Heap 𝓤) (A : Atoms 𝓤) (W : Given
   new-said : (r : Cursor) → ent 𝓤 (ensured 𝓤 H A new.ended (new.clauses 𝓤 H A mem run) (κ, tt) (s, (n, (m, tt))) tt r) (fact 𝓤 ((r .blob ≡ s) × (r .at ≡ n) × (r .left ≡ m)))
   new-said r = exE 𝓤 _ (λ ws. first-said 𝓤 (sem 𝓤 H A (lasts new.ended (κ, tt) (s, (n, (m, tt))) ws)) ((r .blob ≡ s) × (r .at ≡ n) × (r .left ≡ m)) (listOf (now s) ≡ Listed n m → Before (now (r .blob)) (r .at) (r .left) 0))
 
-  -- the call of `Cursor::next`, at the struct r with the machine value u
+  -- the call of `Cursor::range`, at the struct r with the machine value u
   abbrev to-next : Cursor → Val → Next 𝓤 H A mem run .Ghost
   to-next r u = (((κ, tt), (q, tt), tt, (r, tt), (u ∷ [], tt)), tt)
 
@@ -99,7 +99,7 @@ module _ {M : Type 1} (𝓤 : URA M) (H : Heap 𝓤) (A : Atoms 𝓤) (W : Given
       suffices ! _ (ends-at 𝓤 H A thin.ended stayed (thin.clauses 𝓤 H A mem run) W (((κ, tt), (q, tt), tt, (s, (n, (m, tt))), at), tt) u t (tt, (tt, (tt, tt))) (tt, (tt, (tt, tt)))) $ says ! e $
       move ! (1 ∷ []) $ frame ! $ nothing ! $ owned ! u64 (Is u64) (uint-makes 𝓤 H A W w64) m _ (refl, m-fits) $ fjoin ! $ owned ! usize (Is usize) (uint-makes 𝓤 H A W w64) n _ (refl, n-fits) $ fjoin ! $ move ! (2 ∷ 0 ∷ []) $ fjoin ! $ frame ! $ done !
 
-  module _ (C : Calls 𝓤 H) (Λ : Loops 𝓤 H) (fm : FmC 𝓤 H (W .laws) C) (known-new : Triple 𝓤 (C #surface·new) (New 𝓤 H A mem run)) (known-next : Triple 𝓤 (C #surface·Cursor·next) (Next 𝓤 H A mem run)) where
+  module _ (C : Calls 𝓤 H) (Λ : Loops 𝓤 H) (fm : FmC 𝓤 H (W .laws) C) (known-new : Triple 𝓤 (C #surface·new) (New 𝓤 H A mem run)) (known-next : Triple 𝓤 (C #surface·Cursor·range) (Next 𝓤 H A mem run)) where
     walk : Is (ShrSlice (named 0) κ u8) s (v ∷ []) → ent 𝓤 (onEntry 𝓤 H A thin.signature (κ, tt) (q, tt) (s, (n, (m, tt))) at) (WpFn 𝓤 H C Λ code.function (v ∷ vint w64 n ∷ vint w64 m ∷ []) Post)
     walk p =
         qed W (raw (onEntry 𝓤 H A thin.signature (κ, tt) (q, tt) (s, (n, (m, tt))) at) ∷ []) ∵ enter ! C Λ code.function (v ∷ vint w64 n ∷ vint w64 m ∷ []) _ $
@@ -123,13 +123,13 @@ module _ {M : Type 1} (𝓤 : URA M) (H : Heap 𝓤) (A : Atoms 𝓤) (W : Given
         by ! (exits t u′ (e′ ∙ (ap (λ (x : RefT (List ℕ)). nextOf (now x) (r .at) (r .left)) (e .0) ∙ (ap (λ (k : ℕ). nextOf (now s) k (r .left)) (e .1) ∙ ap (λ (k : ℕ). nextOf (now s) n k) (e .2))))))))))))))))))
 
 module _ {M : Type 1} (𝓤 : URA M) (H : Heap 𝓤) (A : Atoms 𝓤) (W : Given 𝓤 H A) (mem : Memory → SProp 𝓤) (run : Routine → Fun 𝓤) where
-  thin-walks : (C : Calls 𝓤 H) (Λ : Loops 𝓤 H) → FmC 𝓤 H (W .laws) C → Triple 𝓤 (C #surface·new) (New 𝓤 H A mem run) → Triple 𝓤 (C #surface·Cursor·next) (Next 𝓤 H A mem run)
+  thin-walks : (C : Calls 𝓤 H) (Λ : Loops 𝓤 H) → FmC 𝓤 H (W .laws) C → Triple 𝓤 (C #surface·new) (New 𝓤 H A mem run) → Triple 𝓤 (C #surface·Cursor·range) (Next 𝓤 H A mem run)
       → Walks 𝓤 H A thin.ended stayed (WpFn 𝓤 H C Λ code.function) (thin.clauses 𝓤 H A mem run)
   thin-walks C Λ fm known-new known-next = walked 𝓤 H A thin.ended stayed (thin.clauses 𝓤 H A mem run) (WpFn 𝓤 H C Λ code.function) (λ κs. (slice-vals, (uint-vals w64, (uint-vals w64, tt)))) (λ κs. (shr-slice-tells (named 0) (κs .0) u8, (uint-tells w64, (uint-tells w64, tt))))
       (λ κs qs bounds a g are. via 𝓤 _ (fst∗ 𝓤 _ (emp 𝓤)) (walk 𝓤 H A W mem run (κs .0) (qs .0) (a .0) (a .1 .0) (a .1 .1 .0) (are .1 .0 .1) (are .1 .1 .0 .1) C Λ fm known-new known-next (are .0)))
 
 thin-meets : {M : Type 1} (𝓤 : URA M) (H : Heap 𝓤) (A : Atoms 𝓤) (W : Given 𝓤 H A) (mem : Memory → SProp 𝓤) (run : Routine → Fun 𝓤) (𝓣 : Tables 𝓤 H)
-    → Triple 𝓤 (𝓣 .C #surface·new) (New 𝓤 H A mem run) → Triple 𝓤 (𝓣 .C #surface·Cursor·next) (Next 𝓤 H A mem run)
+    → Triple 𝓤 (𝓣 .C #surface·new) (New 𝓤 H A mem run) → Triple 𝓤 (𝓣 .C #surface·Cursor·range) (Next 𝓤 H A mem run)
     → Meets 𝓤 H A thin.signature (WpFn 𝓤 H (𝓣 .C) (𝓣 .Λ) code.function) (thin.spec 𝓤 H A mem run)
 thin-meets 𝓤 H A W mem run 𝓣 known-new known-next = walk-meets 𝓤 H A thin.ended stayed W (goes-none-slice 𝓤 H A W 1 (0 ∷ []) tt (plain (λ _. u8)) yes, (goes-none 𝓤 H A W 1 (λ _. usize) yes (λ κs x f. refl), (goes-none 𝓤 H A W 1 (λ _. u64) yes (λ κs x f. refl), tt))) (thin.clauses 𝓤 H A mem run) (WpFn 𝓤 H (𝓣 .C) (𝓣 .Λ) code.function) (WpFn-mono 𝓤 H (W .laws) 𝓣 code.function)
     (thin-walks 𝓤 H A W mem run (𝓣 .C) (𝓣 .Λ) (fmOf 𝓤 H (W .laws) 𝓣) known-new known-next)
@@ -141,4 +141,4 @@ next-of-cursor-spec 𝓤 H 𝓜 𝓖 𝓡 =
     (tables 𝓤 H 𝓜 𝓡 code.env .C) (tables 𝓤 H 𝓜 𝓡 code.env .Λ) #viskorrel·next-of-cursor code.function (code.unfolded 𝓤 H 𝓜 𝓡)
     (thin-meets 𝓤 H (𝓖 .A) (givenOf 𝓤 H 𝓜 𝓖) (𝓜 .mem) (𝓡 .run) (tablesOf 𝓤 H 𝓜 (tables 𝓤 H 𝓜 𝓡 code.env))
     (cited 𝓤 H (New 𝓤 H (𝓖 .A) (𝓜 .mem) (𝓡 .run)) 𝓜 𝓡 code.env #surface·new new-def.routine code.calls-surface·Cursor·new (new-thm.met 𝓤 H 𝓜 𝓖 𝓡))
-    (cited 𝓤 H (Next 𝓤 H (𝓖 .A) (𝓜 .mem) (𝓡 .run)) 𝓜 𝓡 code.env #surface·Cursor·next method-def.routine code.calls-surface·Cursor·next (method-thm.met 𝓤 H 𝓜 𝓖 𝓡)))
+    (cited 𝓤 H (Next 𝓤 H (𝓖 .A) (𝓜 .mem) (𝓡 .run)) 𝓜 𝓡 code.env #surface·Cursor·range method-def.routine code.calls-surface·Cursor·range (method-thm.met 𝓤 H 𝓜 𝓖 𝓡)))

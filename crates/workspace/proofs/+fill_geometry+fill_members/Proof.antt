@@ -7,7 +7,7 @@ use mathlib.Core.List.{[], _++_}
 use mathlib.Core.Logic.{_⊎_, inl, inr, ⊎-elim}
 use Rattle.workspace.proofs.Turns.{Turn, turn-none, first-ready, next-turn, last-turn, members-inside, members-are}
 use Rattle.workspace.proofs.Runs.{ready-moved, filled-moved}
-use Rattle.workspace.specs.Inner.{Ready}
+use Rattle.workspace.specs.Inner.{ReadyToFill}
 use lib.ListN.{length}
 use borrow.Author.Needs.{needs}
 use native.Mathlib.Omega.{arith}
@@ -60,7 +60,7 @@ abbrev fill-members-calls : ℕ → fill-members-lts.Claims
 fill-members-calls t = (u32-at-reads.Asked, u32-at-reads.Learnt, fill-geometry-below t, fill-geometry.Post)
 
 fill-geometry-returns : (t : ℕ) → fill-geometry-lts.Need-returns (fill-geometry-calls t) (fill-geometry-at t) fill-geometry.Post
-unfolding walkOf Ready mapParsed
+unfolding walkOf ReadyToFill mapParsed
 fill-geometry-returns t c = absurd (rw (c .if1 .taken) at ((c .before .before .before .before .pre) .1))
 
 fill-geometry-fill-point-requires : (t : ℕ) → fill-geometry-lts.Need-fill-point-requires (fill-geometry-calls t) (fill-geometry-at t) fill-geometry.Post
@@ -80,7 +80,7 @@ unfolding contentRunsAt
 fill-geometry-fill-members-requires t c κs = (omega (arith, (c .before .before .before .before .before .before .before .before .before .before .before .before .before .pre) .0, (c .before .before .before .before .before .before .before .before .before .if1 .left)), ready-moved _ (c .before .before .before .before .before .before .before .before .before .before .before .before .before .args .p) _ _ _ (rw (geometry-is (c .before .before .before .before .before .before .before .before .before .before .before .before .before .args .levels) (c .before .before .before .before .before .before .before .before .before .before .before .before .before .args .s .now) (c .before .before .before .before .before .before .before .before .before .before .before .before .before .args .p .next) ((c .before .before .before .before .before .before .h .given) .0 .0) collectionClass _ (c .before .before .before .before .before .before .before .before .before .if1 .left) (c .before .before .before .before .before .before .before .before .read-header .ensures) ((c .before .before .before .before .before .before .h .given) .1) (class-collection _ ((c .before .before .before .before .match2 .rest) .0 .0 .1) ((c .before .before .before .before .match2 .rest) .0 .1) ((c .before .before .before .before .match2 .rest) .1) (c .before .before .before .if2 .left) (⊎-elim (λ w. inl (w .taken)) (λ w. inr (w .1 .left, w .2 .taken)) (c .before .before .if3 .came)))) at ((c .before .before .before .before .before .before .before .before .before .before .before .before .before .pre) .1)))
 
 fill-geometry-returns-2 : (t : ℕ) → fill-geometry-lts.Need-returns-2 (fill-geometry-calls t) (fill-geometry-at t) fill-geometry.Post
-unfolding Ready
+unfolding ReadyToFill
 fill-geometry-returns-2 t c = absurd (rw (geometry-refused (c .before .before .before .before .before .before .before .args .levels) (c .before .before .before .before .before .before .before .args .s .now) (c .before .before .before .before .before .before .before .args .p .next) _ _ (c .before .before .before .if1 .left) (c .before .before .read-header .ensures) ((c .enum-told .given) .1)) at ((c .before .before .before .before .before .before .before .pre) .1))
 
 fill-geometry-returns-3 : (t : ℕ) → fill-geometry-lts.Need-returns-3 (fill-geometry-calls t) (fill-geometry-at t) fill-geometry.Post
@@ -100,15 +100,15 @@ unfolding contentRunsAt
 fill-geometry-returns-6 t c = rw (geometry-is (c .before .before .before .before .before .before .before .before .before .before .before .before .before .before .before .before .before .before .args .levels) (c .before .before .before .before .before .before .before .before .before .before .before .before .before .before .before .before .before .before .args .s .now) (c .before .before .before .before .before .before .before .before .before .before .before .before .before .before .before .before .before .before .args .p .next) ((c .before .before .before .before .before .before .before .before .before .before .before .h .given) .0 .0) collectionClass _ (c .before .before .before .before .before .before .before .before .before .before .before .before .before .before .if1 .left) (c .before .before .before .before .before .before .before .before .before .before .before .before .before .read-header .ensures) ((c .before .before .before .before .before .before .before .before .before .before .before .h .given) .1) (class-collection _ ((c .before .before .before .before .before .before .before .before .before .match2 .rest) .0 .0 .1) ((c .before .before .before .before .before .before .before .before .before .match2 .rest) .0 .1) ((c .before .before .before .before .before .before .before .before .before .match2 .rest) .1) (c .before .before .before .before .before .before .before .before .if2 .left) (⊎-elim (λ w. inl (w .taken)) (λ w. inr (w .1 .left, w .2 .taken)) (c .before .before .before .before .before .before .before .if3 .came)))) (filled-moved _ (c .before .before .before .before .before .before .before .before .before .before .before .before .before .before .before .before .before .before .args .p) _ _ _ _ _ _ (c .before .before .before .before .fill-members .ensures))
 
 fill-geometry-returns-7 : (t : ℕ) → fill-geometry-lts.Need-returns-7 (fill-geometry-calls t) (fill-geometry-at t) fill-geometry.Post
-unfolding contentRunsAt Ready
+unfolding contentRunsAt ReadyToFill
 fill-geometry-returns-7 t c = absurd (rw (geometry-is (c .before .before .before .before .before .before .before .before .before .before .args .levels) (c .before .before .before .before .before .before .before .before .before .before .args .s .now) (c .before .before .before .before .before .before .before .before .before .before .args .p .next) ((c .before .before .before .h .given) .0 .0) unknownClass _ (c .before .before .before .before .before .before .if1 .left) (c .before .before .before .before .before .read-header .ensures) ((c .before .before .before .h .given) .1) (class-none _ (c .if2 .taken))) at ((c .before .before .before .before .before .before .before .before .before .before .pre) .1))
 
 fill-geometry-returns-8 : (t : ℕ) → fill-geometry-lts.Need-returns-8 (fill-geometry-calls t) (fill-geometry-at t) fill-geometry.Post
-unfolding contentRunsAt Ready
+unfolding contentRunsAt ReadyToFill
 fill-geometry-returns-8 t c = absurd (rw (geometry-is (c .before .before .before .before .before .before .before .before .before .before .before .before .args .levels) (c .before .before .before .before .before .before .before .before .before .before .before .before .args .s .now) (c .before .before .before .before .before .before .before .before .before .before .before .before .args .p .next) ((c .before .before .before .before .before .h .given) .0 .0) unknownClass _ (c .before .before .before .before .before .before .before .before .if1 .left) (c .before .before .before .before .before .before .before .read-header .ensures) ((c .before .before .before .before .before .h .given) .1) (class-above _ (c .before .if3 .left) (omega arith) (omega arith) (omega arith))) at ((c .before .before .before .before .before .before .before .before .before .before .before .before .pre) .1))
 
 fill-geometry-returns-9 : (t : ℕ) → fill-geometry-lts.Need-returns-9 (fill-geometry-calls t) (fill-geometry-at t) fill-geometry.Post
-unfolding contentRunsAt Ready
+unfolding contentRunsAt ReadyToFill
 fill-geometry-returns-9 t c = absurd (rw (geometry-is (c .before .before .before .before .before .before .before .before .before .before .before .before .before .args .levels) (c .before .before .before .before .before .before .before .before .before .before .before .before .before .args .s .now) (c .before .before .before .before .before .before .before .before .before .before .before .before .before .args .p .next) ((c .before .before .before .before .before .before .h .given) .0 .0) unknownClass _ (c .before .before .before .before .before .before .before .before .before .if1 .left) (c .before .before .before .before .before .before .before .before .read-header .ensures) ((c .before .before .before .before .before .before .h .given) .1) (class-above _ (c .before .before .if3 .left) (omega arith) (omega arith) (λ e. (c .before .before .before .before .match2 .rest) .1 (inr e)))) at ((c .before .before .before .before .before .before .before .before .before .before .before .before .before .pre) .1))
 
 abbrev fill-members-Inv-loop : fill-members-lts.InvT-loop
