@@ -53,7 +53,7 @@
 #include <stddef.h>
 #include <stdint.h>
 
-#define VISKORREL_VERSION "0.2.0"
+#define VISKORREL_VERSION "0.2.1"
 
 #ifdef __cplusplus
 extern "C" {

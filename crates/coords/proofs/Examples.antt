@@ -16,6 +16,7 @@ unfoldable pub nested-tree : ℕ → Geometry
 nested-tree zero = geometry 2 false false (line [])
 nested-tree (suc n) = geometry 7 true false (members (oneMore (nested-tree n) noMembers))
 
+-- End theorems: level 32 is read, level 33 is refused with 12, and 2001 with the Z flag is XYM.
 pub level-32-is-read : walkOf allLevels (nested 32) 0 ≡ ok (nested-tree 32) 297
 unfolding nested nested-tree u32At mapParsed zOf mOf headerOfType headerAt strideOf coordinatesFrom coordinatesAt lineAt times listAt geometryClassOf contentOf geometryFrom walkOf
 level-32-is-read = refl

@@ -91,7 +91,7 @@ unfolding walkOf AtMost
 walk-at-most zero s at = tt
 walk-at-most (suc levels) s at = geometry-at-most (walkOf levels s) levels (walk-at-most levels s) s (headerAt s at)
 
--- the deepest level of what is read lies below the levels left
+-- End theorem: the deepest level of what is read lies below the levels left.
 pub deepest-below : (levels : ℕ) (s : List ℕ) (at : ℕ) (g : Geometry) (end : ℕ) → walkOf levels s at ≡ ok g end → deepestLevel g < levels
 unfolding AtMost geometryLevel
 deepest-below levels s at g end e = let h : suc (deepestLevel g) ≤ levels = subst (AtMost geometryLevel levels) e (walk-at-most levels s at) in omega arith
@@ -155,7 +155,7 @@ walk-reads zero n s at = tt
 walk-reads (suc levels) zero s at = no-level (walkOf (suc levels) s at) (refused 12)
 walk-reads (suc levels) (suc n) s at = geometry-reads (walkOf levels s) (walkOf n s) n (walk-reads levels n s) s (headerAt s at)
 
--- what is read is read with any levels above its deepest
+-- End theorem: what is read is read with any levels above its deepest.
 pub walk-with-levels : (levels n : ℕ) (s : List ℕ) (at : ℕ) (g : Geometry) (end : ℕ) → walkOf levels s at ≡ ok g end → deepestLevel g < n → walkOf n s at ≡ ok g end
 unfolding Reads geometryLevel
 walk-with-levels levels n s at g end e h = subst (λ (r : Parsed Geometry). Reads geometryLevel n r (walkOf n s at)) e (walk-reads levels n s at) (omega arith)

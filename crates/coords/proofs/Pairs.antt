@@ -15,6 +15,7 @@ module _ (s : List ℕ) (p : ℕ) (order : getD s p 0 ≡ 1) (type : u32At true 
   unfolding headerAt headerOfType zOf mOf
   pair-header l = rw (le-ltb (length s) (p + 5) l, order, type)
 
+  -- End theorem: it is read as a collection of the two, to the end of the second.
   pub pair-walk : (levels next end : ℕ) (g g′ : Geometry) → p + 9 ≤ length s → u32At true s (p + 5) ≡ 2 → walkOf levels s (p + 9) ≡ ok g next → walkOf levels s next ≡ ok g′ end → walkOf (suc levels) s p ≡ ok (geometry 7 true false (members (oneMore g (oneMore g′ noMembers)))) end
   unfolding walkOf geometryFrom contentOf geometryClassOf mapParsed listAt times
   pair-walk levels next end g g′ l count first second =

@@ -2,7 +2,7 @@
 use mathlib.Core.Path.{_≡_, refl, sym, ap, _∙_}
 use mathlib.Core.Bool.{Bool, true, false, cond}
 use mathlib.Core.List.{List, [], _∷_, _++_, map, map-append, flatten}
-use Prim.Native.Nat.{ℕ, suc, _+_, _*_, _≤_}
+use Prim.Native.Nat.{ℕ, suc, _+_}
 use native.Mathlib.Omega.{arith}
 use lib.ListN.{length, length-append}
 use Rattle.coords.specs.Parts.{Run, run, mapRuns, coordinateCount, isPoint, isLine, isFace, segmentsBy, ofKind, segmentEnds, verticesOf}
@@ -78,36 +78,3 @@ module _ {A : Type 0} (P : A → Type 0) where
       let alone : (test : ℕ → Bool) → Each P (ofKind test (λ cs. cs) rs) = λ test. of-kind-each test (λ cs. cs) (λ cs h. h) rs e in
       each-append P (ofKind isPoint (λ cs. cs) rs) (ofKind isLine segmentEnds rs ++ ofKind isFace (λ cs. cs) rs) (alone isPoint)
       (each-append P (ofKind isLine segmentEnds rs) (ofKind isFace (λ cs. cs) rs) (of-kind-each isLine segmentEnds segment-ends-each rs e) (alone isFace))
-
--- ---- how many
-
-segment-ends-length : {A : Type 0} (l : List A) → length (segmentEnds l) ≤ 2 * length l
-unfolding segmentEnds segmentsBy flatten
-segment-ends-length [] = omega arith
-segment-ends-length (a ∷ []) = omega arith
-segment-ends-length (a ∷ b ∷ l) = omega (arith, segment-ends-length (b ∷ l))
-
--- what one run gives to the points, the segments' ends and the faces
-run-length : {A : Type 0} (k : ℕ) (cs : List A) → length (cond (isPoint k) cs []) + (length (cond (isLine k) (segmentEnds cs) []) + length (cond (isFace k) cs [])) ≤ 4 * length cs
-run-length k cs = go (isPoint k) (isLine k) (isFace k)
-  where
-    go : (a b c : Bool) → length (cond a cs []) + (length (cond b (segmentEnds cs) []) + length (cond c cs [])) ≤ 4 * length cs
-    go true true true = omega (arith, segment-ends-length cs)
-    go true true false = omega (arith, segment-ends-length cs)
-    go true false true = omega arith
-    go true false false = omega arith
-    go false true true = omega (arith, segment-ends-length cs)
-    go false true false = omega (arith, segment-ends-length cs)
-    go false false true = omega arith
-    go false false false = omega arith
-
-parts-length : {A : Type 0} (rs : List (Run A)) → length (ofKind isPoint (λ cs. cs) rs) + (length (ofKind isLine segmentEnds rs) + length (ofKind isFace (λ cs. cs) rs)) ≤ 4 * coordinateCount rs
-unfolding ofKind coordinateCount
-parts-length [] = omega arith
-parts-length (run k cs ∷ rs) =
-    omega (arith, run-length k cs, parts-length rs, length-append (cond (isPoint k) cs []) (ofKind isPoint (λ cs. cs) rs), length-append (cond (isLine k) (segmentEnds cs) []) (ofKind isLine segmentEnds rs), length-append (cond (isFace k) cs []) (ofKind isFace (λ cs. cs) rs))
-
--- at most four vertices for each coordinate
-pub vertices-length : {A : Type 0} (rs : List (Run A)) → length (verticesOf rs) ≤ 4 * coordinateCount rs
-unfolding verticesOf
-vertices-length rs = simp length-append (parts-length rs)

@@ -119,7 +119,7 @@ pub walk-number : (levels : ℕ) (s : List ℕ) (at k : ℕ) → walkOf levels s
 unfolding Numbered
 walk-number levels s at k e = subst (Numbered WalkNumber) e (numbered-walk levels s at)
 
--- each check holds exactly when the walk refuses with its number
+-- End theorem: each check holds exactly when the walk refuses with its number.
 pub refused-with-exactly : (k : ℕ) (w : Parsed Geometry) → (refusedWith k w ≡ true) ↔ (w ≡ refused k)
 unfolding refusedWith
 refused-with-exactly k (ok g end) = (λ h. absurd (true≢false (sym h)), λ h. let z : _≡_ {A = ℕ} 0 1 = cc in absurd (omega arith))

@@ -112,6 +112,7 @@ module _ (x : Axis) where
     lists : AtEach IsNan (map (x .at) (p ∷ l)) ↔ Each (λ (q : Point). IsNan (x .at q)) (p ∷ l)
     lists = (λ h. mapped-each (x .at) IsNan (p ∷ l) (at-each IsNan (map (x .at) (p ∷ l)) h), λ h. each-at IsNan (map (x .at) (p ∷ l)) (each-mapped (x .at) IsNan (p ∷ l) h))
 
+    -- End theorems: an end is NaN exactly where every point is.
     pub least-end-nan : (isNan (x .lo b) ≡ true) ↔ Each (λ (q : Point). isNan (x .at q) ≡ true) (p ∷ l)
     least-end-nan = rw lo-is (Iff·trans (least-nan-exactly (x .at p) (map (x .at) l)) lists)
 

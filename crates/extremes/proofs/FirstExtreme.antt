@@ -29,7 +29,7 @@ bestOf point beats s l = foldl (λ best p. taking beats best (measured point p))
 pub best-mapped : {A : Type 0} (point : A → Point) (beats : Float → Float → Bool) (ls rs : List A) → bestOf (λ v. v) beats none (pairsOf (map point ls) (map point rs)) ≡ bestOf point beats none (pairsOf ls rs)
 best-mapped point beats ls rs = ap (bestOf (λ v. v) beats none) (pairs-mapped point ls rs) ∙ foldl-map (mapPair point) (λ best p. taking beats best (measured (λ v. v) p)) (pairsOf ls rs) none
 
--- there is one first position only
+-- End theorem: there is one first position only.
 pub first-unique : {A : Type 0} (distance : Pair A → Float) (order : Float → Float → Bool) (l : List (Pair A)) (k k′ : ℕ) (p p′ : Pair A) → FirstAt distance order l k p → FirstAt distance order l k′ p′ → k ≡ k′
 first-unique distance order l k k′ p p′ f g = go (decLt k k′) (decLt k′ k)
   where

@@ -35,6 +35,7 @@ module _ (s t : List ℕ) (same : MeasuredAlike s t) where
       (two-alike _ _ _ _ (side-alike 1 _ _ (same .header))
       (two-alike _ _ _ _ (side-alike 1 _ _ (same .walk)) (rw (no-line-alike, coordinates-alike s t same, runs-alike s t same))))
 
+  -- End theorem: blobs that differ in what is ignored get the same report and output.
   pub line-interpolate-point-alike : (fraction : Float) (w : Workspaces) (lent : List ℕ) → AnswersAlike (lineInterpolatePoint s fraction w lent) (lineInterpolatePoint t fraction w lent)
   unfolding lineInterpolatePoint pointOfBlob
   line-interpolate-point-alike fraction w lent = alike _ _ _ _ _ _ _ _ _ _ (checks-alike fraction w lent) refl (rw (same .srid, same .points))

@@ -22,17 +22,17 @@ use Rattle.interpolation.specs.Operation.{interpolationChecks, pointOfBl
 use Rattle.interpolation.proofs.Lines.{segments-map, has-segment}
 use Rattle.interpolation.proofs.Order.{none-holds}
 
--- what the lent memory holds changes no report: its lengths alone matter
+-- End theorem: what the lent memory holds changes no report: its lengths alone matter
 pub report-by-lengths : (s : List ℕ) (fraction : Float) (w v : Workspaces) (out out′ : List ℕ) → SameLengths w v → length out ≡ length out′ → lineInterpolatePoint s fraction w out .report ≡ lineInterpolatePoint s fraction v out′ .report
 unfolding lineInterpolatePoint
 report-by-lengths s fraction w v out out′ same e = same-report _ _ _ _ _ _ _ _ _ _ _ (rw (same .floats1, same .table1, e))
 
--- a refusal is reported exactly when a check gives it whose condition holds, and no earlier one holds
+-- End theorem: a refusal is reported exactly when a check gives it whose condition holds, and no earlier one holds
 pub refused-exactly : (s : List ℕ) (fraction : Float) (w : Workspaces) (out : List ℕ) (r : Refusal) → (lineInterpolatePoint s fraction w out .report ≡ refusing r) ↔ First (checksOfLent s fraction w out) r
 unfolding lineInterpolatePoint
 refused-exactly s fraction w out r = exactly (checksOfLent s fraction w out) r _ _ w _ out
 
--- a call that refuses nothing has a point
+-- End theorem: a call that refuses nothing has a point
 pub accepted-has-point : (s : List ℕ) (fraction : Float) (floats numbers output : ℕ) → firstOf (interpolationChecks s fraction floats numbers output) ≡ none → (p : Point) × (pointOfBlob s fraction ≡ some p)
 unfolding pointOfBlob interpolatedPoint
 accepted-has-point s fraction floats numbers output e = go (segmentsOf (mapRuns pointOf (runsOfBlob s))) refl

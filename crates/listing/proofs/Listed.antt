@@ -9,12 +9,7 @@ use Rattle.listing.specs.Rows.{placeAt}
 use Rattle.listing.specs.Listing.{listedItem, listedFrom}
 
 module _ (floats : List Float) (places : List ℕ) where
-  -- of n items, those from the k-th on: all, the k-th and those after it, none
-  pub listed-start : (n : ℕ) → listedFrom floats places 0 (n - 0) ≡ listedFrom floats places 0 n
-  listed-start n =
-      let e : n - 0 ≡ n = omega arith in
-      rw e
-
+  -- of n items, those from the k-th on: the k-th and those after it, none
   pub listed-next : (k n : ℕ) → k < n → listedFrom floats places k (n - k) ≡ listedItem floats places k ∷ listedFrom floats places (k + 1) (n - (k + 1))
   unfolding listedFrom
   listed-next k n h =
