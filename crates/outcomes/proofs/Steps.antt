@@ -7,7 +7,7 @@ use Prim.Native.Nat.{ℕ, _*_, _≤_}
 use native.Mathlib.Omega.{arith}
 use lib.Dec.{ltb}
 use lib.ListN.{length}
-use lib.Ieee.{lt}
+use lib.Ieee.{Float, lt, le, eq}
 use borrow.Author.Tests.{ltb-false}
 use Rattle.ieee754.specs.MinMax.{positiveZero}
 use Rattle.refusals.specs.Checks.{Check, check, firstOf}
@@ -25,9 +25,9 @@ use Rattle.operands.specs.declared.Operands.{Operands}
 use Rattle.operands.specs.declared.Checked.{Checked}
 use Rattle.operands.specs.declared.Checked.the-variants as checked
 use Rattle.operands.proofs.Meaning.{refused-is-first, AreAccepted, are-accepted}
-use Rattle.outcomes.specs.Answers.{Value, Report, answering}
-use Rattle.outcomes.specs.Operations.{outcome, noSide, toleranceChecks, unless, blobValue}
-use Rattle.outcomes.specs.Inner.{askedChecks, belowZero, tooShort, memoryBy, storedBy, ReadBoth, sweptOf, sweptBy, PairSwept, sweptReport, sweptOutput, SweptWritten, Fits}
+use Rattle.outcomes.specs.Answers.{Value, Report, answering, answerReport}
+use Rattle.outcomes.specs.Operations.{outcome, noSide, toleranceChecks, unless, distanceValue, withinValue, touchingValue, blobValue}
+use Rattle.outcomes.specs.Inner.{askedChecks, belowZero, tooShort, memoryBy, storedBy, ReadBoth, sweptOf, sweptBy, PairSwept, sweptAnswer, decidedReport, sweptReport, sweptOutput, SweptWritten, Fits}
 use Rattle.outcomes.specs.declared.Asked.{Asked}
 use Rattle.outcomes.specs.declared.Asked.the-variants as asked
 use Rattle.outcomes.specs.declared.BothRead.{BothRead}
@@ -126,6 +126,25 @@ module _ {first : Option Refusal} {a b : List ℕ} {w w′ : Workspaces} {r : Bo
         go none h = let own : srid ≡ sridOf a = cc in g ∙ rw (f, own)
 
 -- ---- the answer
+
+-- the pair's distance, and what is decided of it, as the operations' values have it
+pub swept-measured : (r : Swept) → answerReport (sweptAnswer r) ≡ sweptReport distanceValue r
+unfolding answerReport sweptAnswer sweptReport distanceValue
+swept-measured (swept.Refused t) = refl
+swept-measured swept.Nothing = refl
+swept-measured (swept.Found x srid) = refl
+
+pub swept-within : (d : Float) (r : Swept) → decidedReport (λ m. le m d) (sweptAnswer r) ≡ sweptReport (withinValue d) r
+unfolding decidedReport sweptAnswer sweptReport withinValue
+swept-within d (swept.Refused t) = refl
+swept-within d swept.Nothing = refl
+swept-within d (swept.Found x srid) = refl
+
+pub swept-touching : (r : Swept) → decidedReport (λ m. eq m positiveZero) (sweptAnswer r) ≡ sweptReport touchingValue r
+unfolding decidedReport sweptAnswer sweptReport touchingValue
+swept-touching (swept.Refused t) = refl
+swept-touching swept.Nothing = refl
+swept-touching (swept.Found x srid) = refl
 
 -- with no output nothing is written
 unwritten : (r : Swept) → [] ≡ sweptOutput (λ srid p l. l) r []

@@ -5,7 +5,7 @@ use mathlib.Core.Bool.{Bool, false}
 use mathlib.Core.List.{List, [], _∷_, _++_}
 use mathlib.Core.Option.{Option, none, some}
 use lib.Dec.{ltb}
-use lib.Ieee.{lt}
+use lib.Ieee.{Float, lt}
 use Rattle.ieee754.specs.MinMax.{positiveZero}
 use Rattle.refusals.specs.Checks.{Check, check, firstOf}
 use Rattle.refusals.specs.declared.Refusal.{Refusal}
@@ -17,8 +17,10 @@ use Rattle.extremes.specs.declared.ExtremePair.the-variants as extreme-pair
 use Rattle.workspace.specs.Workspace.{numbersNeeded}
 use Rattle.blob.specs.Blob.{runsOfBlob}
 use Rattle.operands.specs.Operands.{Workspaces, lentChecks, filled}
-use Rattle.outcomes.specs.Answers.{Value, Report, answering, refusing}
+use Rattle.outcomes.specs.Answers.{Value, decided, Report, answering, refusing}
 use Rattle.outcomes.specs.Operations.{noSide, toleranceChecks, blobValue}
+use Rattle.outcomes.specs.declared.Answer.{Answer}
+use Rattle.outcomes.specs.declared.Answer.the-variants as answer-case
 use Rattle.outcomes.specs.declared.Asked.{Asked}
 use Rattle.outcomes.specs.declared.Asked.the-variants as asked
 use Rattle.outcomes.specs.declared.BothRead.{BothRead}
@@ -74,6 +76,18 @@ sweptBy none pair srid = sweptOf (answerOf pair) srid
 pub record PairSwept (first : Option Refusal) (pair : Option Witness) (a b : List ℕ) (w w′ : Workspaces) (r : Swept) : Type 0 where
   pub answer : r ≡ sweptBy first pair (sridOf a)
   pub memory : w′ ≡ memoryBy first a b w
+
+-- the distance of the pair as an answer
+unfoldable pub sweptAnswer : Swept → Answer
+sweptAnswer (swept.Refused r) = answer-case.Refused r
+sweptAnswer swept.Nothing = answer-case.Nothing
+sweptAnswer (swept.Found x srid) = answer-case.Measured (x .d)
+
+-- yes or no by a test of an answered distance; none gives no
+unfoldable pub decidedReport : (Float → Bool) → Answer → Report
+decidedReport test (answer-case.Refused r) = refusing r
+decidedReport test answer-case.Nothing = answering (decided false)
+decidedReport test (answer-case.Measured d) = answering (decided (test d))
 
 -- what is reported of a sweep, by the value of its pair
 unfoldable pub sweptReport : (Option Witness → Value) → Swept → Report

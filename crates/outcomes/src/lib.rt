@@ -8,13 +8,14 @@ use refusals::Refusal;
 use workspace::NUMBERS_PER_RUN;
 ghost use mathlib.Core.Path.{_≡_};
 ghost use lib.ListN.{length};
+ghost use lib.Ieee.{le, eq};
+ghost use Rattle.ieee754.specs.MinMax.{positiveZero};
 ghost use Rattle.gpb.specs.Written.{pointBytes, lineBytes};
 ghost use Rattle.outcomes.specs.Lent.{lent, left};
-ghost use Rattle.outcomes.specs.Answers.{answerReport, decisionReport, writtenReport};
-ghost use Rattle.outcomes.specs.Operations.{distanceValue, withinValue, touchingValue};
+ghost use Rattle.outcomes.specs.Answers.{decisionReport, writtenReport};
 ghost use Rattle.outcomes.specs.Operations.{lineAfter, pointAfter};
 ghost use Rattle.outcomes.specs.Inner.{belowZero, tooShort, firstAsked, ReadBoth};
-ghost use Rattle.outcomes.specs.Inner.{sweptOf, sweptReport, SweptWritten, Fits};
+ghost use Rattle.outcomes.specs.Inner.{sweptOf, sweptAnswer, decidedReport, SweptWritten, Fits};
 
 // A number (may be NaN), none, or a refusal.
 pub enum Answer {
@@ -143,7 +144,7 @@ pub fn with_srid(found: ExtremePair, srid: u32) -> Swept
 
 // The distance of the pair, or none.
 pub fn measured(pair: Swept) -> Answer
-    ensures { λ r. ⌜ answerReport r ≡ sweptReport distanceValue pair ⌝ }
+    ensures { λ r. ⌜ r ≡ sweptAnswer pair ⌝ }
 {
     match pair {
         Swept::Refused(refusal) => Answer::Refused(refusal),
@@ -152,29 +153,25 @@ pub fn measured(pair: Swept) -> Answer
     }
 }
 
-// Whether the distance of the pair is at most d; no where there is none.
-pub fn within(pair: Swept, d: f64) -> Decision
-    ensures { λ r. ⌜ decisionReport r ≡ sweptReport (withinValue d) pair ⌝ }
+// Whether an answered distance is at most d; no where there is none.
+pub fn within(answer: Answer, d: f64) -> Decision
+    ensures { λ r. ⌜ decisionReport r ≡ decidedReport (λ m. le m d) answer ⌝ }
 {
-    match pair {
-        Swept::Refused(refusal) => Decision::Refused(refusal),
-        Swept::Nothing => Decision::No,
-        Swept::Found { witness, srid: _ } => if witness.d <= d {
-            Decision::Yes
-        } else {
-            Decision::No
-        },
+    match answer {
+        Answer::Refused(refusal) => Decision::Refused(refusal),
+        Answer::Nothing => Decision::No,
+        Answer::Measured(m) => if m <= d { Decision::Yes } else { Decision::No },
     }
 }
 
-// Whether the distance of the pair is 0; no where there is none.
-pub fn touching(pair: Swept) -> Decision
-    ensures { λ r. ⌜ decisionReport r ≡ sweptReport touchingValue pair ⌝ }
+// Whether an answered distance is 0; no where there is none.
+pub fn touching(answer: Answer) -> Decision
+    ensures { λ r. ⌜ decisionReport r ≡ decidedReport (λ m. eq m positiveZero) answer ⌝ }
 {
-    match pair {
-        Swept::Refused(refusal) => Decision::Refused(refusal),
-        Swept::Nothing => Decision::No,
-        Swept::Found { witness, srid: _ } => if witness.d == 0.0 {
+    match answer {
+        Answer::Refused(refusal) => Decision::Refused(refusal),
+        Answer::Nothing => Decision::No,
+        Answer::Measured(m) => if m == 0.0 {
             Decision::Yes
         } else {
             Decision::No

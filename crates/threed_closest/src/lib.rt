@@ -102,7 +102,8 @@ pub fn st_3d_dwithin(
         table2,
         false,
     );
-    outcomes::within(pair, d)
+    let answer = outcomes::measured(pair);
+    outcomes::within(answer, d)
 }
 
 // Whether the distance is 0.
@@ -127,7 +128,8 @@ pub fn st_3d_intersects(
         table2,
         true,
     );
-    outcomes::touching(pair)
+    let answer = outcomes::measured(pair);
+    outcomes::touching(answer)
 }
 
 // Side 1's point of the closest pair.

@@ -79,7 +79,8 @@ pub fn st_3d_dfully_within(
         ≡ fullyWithin (now (a .entry)) (now (b .entry)) d (lent floats1 table1 floats2 table2) ⌝ }
 {
     let pair = farthest_pair(a, b, Asked::Within(d), floats1, table1, floats2, table2);
-    outcomes::within(pair, d)
+    let answer = outcomes::measured(pair);
+    outcomes::within(answer, d)
 }
 
 // The line between the farthest pair, from side 1's vertex to side 2's.

@@ -1,26 +1,25 @@
 -- `outcomes::within` meets its contract. Assumes nothing.
 use Rattle.outcomes.specs.Answers.{decisionReport}
-use Rattle.outcomes.specs.Operations.{withinValue}
-use Rattle.outcomes.specs.Inner.{sweptReport}
+use Rattle.outcomes.specs.Inner.{decidedReport}
 use borrow.Author.Needs.{needs}
 use Rattle.outcomes.proofs.within.Statement.{statement}
 use Rattle.outcomes.proofs.within.Tie as tie
 
 returns : tie.Need-returns
-unfolding decisionReport sweptReport withinValue
-returns c = rw (c .before .pair .given .1)
+unfolding decisionReport decidedReport
+returns c = rw (c .before .answer .given .1)
 
 returns-2 : tie.Need-returns-2
-unfolding decisionReport sweptReport withinValue
+unfolding decisionReport decidedReport
 returns-2 c = rw (c .enum-told .given .1)
 
 returns-3 : tie.Need-returns-3
-unfolding decisionReport sweptReport withinValue
-returns-3 c = rw (c .before .before .before .pair2 .given .1, c .if1 .taken)
+unfolding decisionReport decidedReport
+returns-3 c = rw (c .before .before .answer2 .given .1, c .if1 .taken)
 
 returns-4 : tie.Need-returns-4
-unfolding decisionReport sweptReport withinValue
-returns-4 c = rw (c .before .before .before .pair2 .given .1, c .if1 .left)
+unfolding decisionReport decidedReport
+returns-4 c = rw (c .before .before .answer2 .given .1, c .if1 .left)
 
 pub within-spec : {M : Type 1} → statement M
 within-spec =
