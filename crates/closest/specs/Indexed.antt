@@ -8,11 +8,9 @@ use lib.ListN.{length}
 use lib.Ieee.{Float}
 use Rattle.parts.specs.Stored.{storedRuns}
 use Rattle.items.specs.Items.{itemsOf}
-use Rattle.items.specs.declared.Class.{Class}
 use Rattle.listing.specs.Rows.{floatsPerBox, numbersPerPlace}
 use Rattle.listing.specs.Listing.{mostListed, listedFrom, Entries}
 use Rattle.blocks.specs.Blocks.{Cut}
-use Rattle.closest.specs.declared.Sweep.{Sweep}
 
 -- so many items have their boxes and places in the rows
 pub record HasEntries (count : ℕ) (floats boxes : List Float) (places : List ℕ) : Type 0 where
@@ -30,7 +28,3 @@ pub record Indexed (size rows : ℕ) (table : List ℕ) (floats boxes : List Flo
 -- how many rows are of single items
 abbrev pub listedRows : ℕ → ℕ → ℕ
 listedRows size rows = cond (eqb size 1) rows 0
-
--- the sweep of another class
-abbrev pub ofClass : Sweep → Class → Sweep
-ofClass sweep class = record { class = class; stop = sweep .stop; all = sweep .all; rows = sweep .rows; size = sweep .size }

@@ -36,7 +36,7 @@ ghost use Rattle.extremes.specs.ClosestSweep.{noCloser};
 ghost use Rattle.blocks.specs.Spans.{itemsFrom, RoomPast};
 ghost use Rattle.blocks.specs.Blocks.{Cut};
 ghost use Rattle.closest.specs.Inner.{atZero, Lasts, isOnePoint};
-ghost use Rattle.closest.specs.Indexed.{HasEntries, Indexed, listedRows, ofClass};
+ghost use Rattle.closest.specs.Indexed.{HasEntries, Indexed, listedRows};
 ghost use Rattle.closest.specs.Known.{Known, MeasuredBefore, Follows};
 
 // What the items of a class of A are swept against: the index of B has so many rows, of so many items each, and all is the box of B's items.
@@ -370,20 +370,6 @@ fn from_class(
     seen
 }
 
-// The sweep of another class.
-fn of_class(sweep: Sweep, class: Class) -> Sweep
-    ensures { λ r. ⌜ r ≡ ofClass sweep class ⌝ }
-{
-    let all = sweep.all;
-    Sweep {
-        class,
-        stop: sweep.stop,
-        all,
-        rows: sweep.rows,
-        size: sweep.size,
-    }
-}
-
 // All items of A, each with all items of B: the sweep is of the points first.
 fn sweep_classes(
     points: Sweep,
@@ -400,8 +386,24 @@ fn sweep_classes(
     ensures { λ r. ⌜ Keeps r (sweepOf (points .all) (itemsOf (storedRuns (now (table2 .entry)) (now (floats2 .entry)))) none (itemsOf (storedRuns (now (table1 .entry)) (now (floats1 .entry))))) ⌝ }
 {
     let none = extremes::none_yet();
-    let segments = of_class(points, Class::Segments);
-    let triangles = of_class(points, Class::Triangles);
+    let stop = points.stop;
+    let all = points.all;
+    let rows = points.rows;
+    let size = points.size;
+    let segments = Sweep {
+        class: Class::Segments,
+        stop,
+        all,
+        rows,
+        size,
+    };
+    let triangles = Sweep {
+        class: Class::Triangles,
+        stop,
+        all,
+        rows,
+        size,
+    };
     let best1 = from_class(
         none,
         points,

@@ -52,11 +52,11 @@ module _ {R : Type 0} (noLine aLine : R) where
   FirstExtremeLine order a b told output =
       Holds (distanceOf pointOf) order (verticesOfBlob a) (verticesOfBlob b) (told ≡ noLine) (LineBetween told output)
 
-  -- of an accepted longest-line call: `lent` is the output before it, `output` the one after
-  pub record LongestOfAll (a b : List ℕ) (w : Workspaces) (lent : List ℕ) (told : R) (output : List ℕ) : Type 0 where
-    pub accepted : firstOf (lineChecks a b w lent) ≡ none → FirstExtremeLine atMost a b told output
+  -- of an accepted longest-line call: `before` is the output lent to it, `output` the one after
+  pub record LongestOfAll (a b : List ℕ) (w : Workspaces) (before : List ℕ) (told : R) (output : List ℕ) : Type 0 where
+    pub first-extreme-line : firstOf (lineChecks a b w before) ≡ none → FirstExtremeLine atMost a b told output
 
   -- of an accepted shortest-line call whose two blobs hold point runs only
-  pub record ShortestOfPoints (a b : List ℕ) (w : Workspaces) (lent : List ℕ) (told : R) (output : List ℕ) : Type 0 where
-    pub accepted : firstOf (lineChecks a b w lent) ≡ none → PointRunsOnly (runsOfBlob a) → PointRunsOnly (runsOfBlob b)
+  pub record ShortestOfPoints (a b : List ℕ) (w : Workspaces) (before : List ℕ) (told : R) (output : List ℕ) : Type 0 where
+    pub first-extreme-line : firstOf (lineChecks a b w before) ≡ none → PointRunsOnly (runsOfBlob a) → PointRunsOnly (runsOfBlob b)
         → FirstExtremeLine atLeast a b told output

@@ -31,7 +31,7 @@ module _ (order : Float → Float → Bool) (a b : List ℕ) (x : Written) (outp
 
 module _ (a b : List ℕ) (w : Workspaces) (lent : List ℕ) (x : Written) (output : List ℕ) (r : Reply) (same : r ≡ replyOf (writtenReport x)) where
   pub longest-reply : LongestOfAll (answering nothing) (answering blob) a b w lent (writtenReport x) output → LongestOfAll replyNothing (replyAnswered positiveZero) a b w lent r output
-  longest-reply h = rw same (record { accepted = λ first. first-extreme-reply _ a b x output (h .accepted first) })
+  longest-reply h = rw same (record { first-extreme-line = λ first. first-extreme-reply _ a b x output (h .first-extreme-line first) })
 
   pub shortest-reply : ShortestOfPoints (answering nothing) (answering blob) a b w lent (writtenReport x) output → ShortestOfPoints replyNothing (replyAnswered positiveZero) a b w lent r output
-  shortest-reply h = rw same (record { accepted = λ first p q. first-extreme-reply _ a b x output (h .accepted first p q) })
+  shortest-reply h = rw same (record { first-extreme-line = λ first p q. first-extreme-reply _ a b x output (h .first-extreme-line first p q) })

@@ -26,7 +26,7 @@ module _ (a b : List ℕ) (w : Workspaces) (output : List ℕ) (bytes1 : (i : �
   unfolding shortestLine
   shortest-of-points =
       record {
-        accepted = λ first p q. accepted-line a b bytes1 bytes2 (closestPair a b) (closest-holds a b p q) output (firstOf (lineChecks a b w output)) (filled a b w) w first;
+        first-extreme-line = λ first p q. accepted-line a b bytes1 bytes2 (closestPair a b) (closest-holds a b p q) output (firstOf (lineChecks a b w output)) (filled a b w) w first;
       }
 
   -- the same of an outcome that was shown to be the operation's

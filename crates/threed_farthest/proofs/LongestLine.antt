@@ -18,7 +18,7 @@ module _ (a b : List ℕ) (w : Workspaces) (output : List ℕ) (bytes1 : (i : �
   unfolding longestLine farthestPair
   longest-of-all =
       record {
-        accepted = accepted-line a b bytes1 bytes2 (farthestPair a b) (longest-line-of pointOf point-binary64 (verticesOfBlob a) (verticesOfBlob b)) output (firstOf (lineChecks a b w output)) (filled a b w) w;
+        first-extreme-line = accepted-line a b bytes1 bytes2 (farthestPair a b) (longest-line-of pointOf point-binary64 (verticesOfBlob a) (verticesOfBlob b)) output (firstOf (lineChecks a b w output)) (filled a b w) w;
       }
 
   -- the same of an outcome that was shown to be the operation's

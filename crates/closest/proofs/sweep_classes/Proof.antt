@@ -9,30 +9,22 @@ use Rattle.closest.proofs.sweep_classes.Tie as tie
 none-yet-requires : tie.Need-none-yet-requires
 none-yet-requires c κs = search needs
 
-of-class-requires : tie.Need-of-class-requires
-of-class-requires c κs = search needs
-
-of-class-requires-2 : tie.Need-of-class-requires-2
-of-class-requires-2 c κs = search needs
-
 from-class-requires : tie.Need-from-class-requires
 from-class-requires c κs = search needs
 
 from-class-requires-2 : tie.Need-from-class-requires-2
-from-class-requires-2 c κs = (c .from-class .ensures .sound, (c .before .before .before .before .before .before .before .before .before .before .pre .1 .0, rw (c .before .before .of-class .ensures) (c .before .before .before .before .before .before .before .before .before .before .pre .1 .1)))
+from-class-requires-2 c κs = search needs
 
 from-class-requires-3 : tie.Need-from-class-requires-3
-from-class-requires-3 c κs = (c .from-class2 .ensures .sound, (c .before .before .before .before .before .before .before .before .before .before .before .pre .1 .0, rw (c .before .before .of-class2 .ensures) (c .before .before .before .before .before .before .before .before .before .before .before .pre .1 .1)))
+from-class-requires-3 c κs = (c .from-class2 .ensures .sound, (c .before .before .before .before .before .before .before .before .before .before .pre .1 .0, c .before .before .before .before .before .before .before .before .before .before .pre .1 .1))
 
 returns : tie.Need-returns
 unfolding itemsOf
 returns c =
-    let triangles = rw (c .before .before .before .of-class2 .ensures) at (c .from-class3 .ensures) in
-    let segments = rw (c .before .before .before .before .of-class .ensures) at (c .before .from-class2 .ensures) in
-    let points = rw (c .before .before .before .before .before .before .before .before .before .before .before .before .pre .0, c .before .before .before .before .before .none-yet .ensures .same) at (c .before .before .from-class .ensures) in
+    let points = rw (c .before .before .before .before .before .before .before .before .before .before .before .pre .0, c .before .before .before .before .none-yet .ensures .same) at (c .before .before .from-class .ensures) in
     record {
-      same = rw (triangles .same, segments .same, points .same) (sweep-append _ _ _ _ _ ∙ sweep-append _ _ _ _ _);
-      sound = triangles .sound;
+      same = rw (c .from-class3 .ensures .same, c .before .from-class2 .ensures .same, points .same) (sweep-append _ _ _ _ _ ∙ sweep-append _ _ _ _ _);
+      sound = c .from-class3 .ensures .sound;
     }
 
 pub sweep-classes-spec : {M : Type 1} → statement M
@@ -40,8 +32,6 @@ sweep-classes-spec =
     tie.close
     (tie.spec
     none-yet-requires
-    of-class-requires
-    of-class-requires-2
     from-class-requires
     from-class-requires-2
     from-class-requires-3
