@@ -71,6 +71,6 @@ module _ (srid : ℕ) (x y z : Float) where
           only-run = one-run _;
         }
 
-    -- the first 37 bytes of what is written, any bytes after them
+    -- End theorem: the first 37 bytes of what is written, any bytes after them.
     pub taken-point-reads-back : (rest : List ℕ) → ReadsAsPoint (take pointBytes (pointBlob srid x y z ++ rest)) (coordinateOf (toBits binary64 x) (toBits binary64 y) (toBits binary64 z))
     taken-point-reads-back rest = rw (take-at blob rest pointBytes blob-length) point-reads-back

@@ -1,4 +1,4 @@
--- Blobs that are measured alike get the same report and output from every measuring operation on two blobs, on either side. Assumes nothing.
+-- End theorems: blobs that are measured alike get the same report and output from every measuring operation on two blobs, on either side. Assumes nothing.
 use Prim.Native.Nat.{ℕ}
 use mathlib.Core.Path.{_≡_, refl, sym, ap, _∙_}
 use mathlib.Core.List.{List, [], _++_}

@@ -1,4 +1,4 @@
--- What an operation reports depends on the blobs, the numbers and the lengths of the memory lent, never on what stands in it. Assumes nothing.
+-- End theorems: what an operation reports depends on the blobs, the numbers and the lengths of the memory lent, never on what stands in it. Assumes nothing.
 use mathlib.Core.Path.{_≡_, refl, ap, _∙_}
 use mathlib.Core.List.{List, [], _++_}
 use mathlib.Core.Option.{Option, none, some}

@@ -1,4 +1,4 @@
--- A NaN tolerance is not refused, and answers no. Assumes nothing.
+-- End theorems: a NaN tolerance is not refused, and answers no. Assumes nothing.
 use mathlib.Core.Path.{_≡_, refl}
 use mathlib.Core.Bool.{false}
 use mathlib.Core.List.{List}

@@ -1,4 +1,4 @@
--- A blob that is written carries side 1's SRID, whatever side 2's is (document 01, "SRID is A's only"). Assumes nothing.
+-- End theorems: a blob that is written carries side 1's SRID, whatever side 2's is (document 01, "SRID is A's only"). Assumes nothing.
 use mathlib.Core.Path.{_≡_}
 use mathlib.Core.List.{List, _++_}
 use mathlib.Core.Option.{none, some}

@@ -1,4 +1,4 @@
--- Each operation refuses exactly where the table says, by the first of its checks that holds. Assumes nothing.
+-- End theorems: each operation refuses exactly where the table says, by the first of its checks that holds. Assumes nothing.
 use mathlib.Core.Path.{_≡_, ap, _∙_}
 use mathlib.Core.Logic.{_↔_}
 use mathlib.Core.Bool.{cond}

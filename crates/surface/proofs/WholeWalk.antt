@@ -1,4 +1,4 @@
--- The walk as a whole: from a list's start on, each step from the end of the patch before it, the next patch is patch 0, 1, 2 and so on, and none after the last. Assumes nothing.
+-- End theorems: the walk as a whole: from a list's start on, each step from the end of the patch before it, the next patch is patch 0, 1, 2 and so on, and none after the last. Assumes nothing.
 use mathlib.Core.Path.{_≡_, refl}
 use mathlib.Core.List.{List, [], _∷_}
 use Prim.Native.Nat.{ℕ, zero, suc, _+_, _-_, _<_, _≤_}

@@ -1,4 +1,4 @@
--- Laws of the answers over the closest pair: intersects says that the distance is 0, and none is answered exactly where a side has no item. Assumes nothing.
+-- End theorems: laws of the answers over the closest pair: intersects says that the distance is 0, and none is answered exactly where a side has no item. Assumes nothing.
 use mathlib.Core.Path.{_≡_, refl, sym, _∙_}
 use mathlib.Core.Logic.{_↔_, _⊎_}
 use mathlib.Core.Bool.{true}
