@@ -104,8 +104,8 @@ viskorrel_pair viskorrel_read(
     const uint8_t *blob, size_t length, double *floats, size_t floats_length, uint32_t *table, size_t table_length);
 
 /*
- * LEAST DISTANCE. Each point, segment and triangle of a is measured against each of b. A line of n vertices has n - 1 segments. Every ring,
- * a hole too, is a filled face: a fan of triangles from its first vertex, none if it has under 3 vertices. A segment that passes through a
+ * LEAST DISTANCE. Each point, segment and triangle of a is measured against each of b, unless their boxes are no closer than the best so
+ * far. A line of n vertices has n - 1 segments. Every ring, a hole too, is a filled face: a fan of triangles from its first vertex, none if it has under 3 vertices. A segment that passes through a
  * triangle is measured at its ends and at the triangle's edges. There is none where a or b has no point, segment or triangle.
  */
 

@@ -25,7 +25,7 @@ use Rattle.listing.specs.declared.Place.{Place}
 use Rattle.listing.specs.Rows.{floatsPerBox, boxFloats, numbersPerPlace, placeNumbers}
 use Rattle.listing.proofs.Rows.{box-put, box-kept, place-put, place-kept}
 use Rattle.blocks.specs.Spans.{itemsPast, itemsFrom, itemTotal, RoomPast, Spanned}
-use Rattle.blocks.specs.Blocks.{mostRows, blockCount, blocksFrom, Rows, Adds}
+use Rattle.blocks.specs.Blocks.{mostRows, blockCount, blocksFrom, Rows, CutsMore}
 use Rattle.blocks.specs.declared.Span.{Span}
 use Rattle.blocks.proofs.Blocks.{blocks-more, blocks-same}
 use Rattle.blocks.proofs.Spans.{length-total}
@@ -150,8 +150,8 @@ module _ (table : List ℕ) (floats : List Float) (size : ℕ) (h : 0 < size) wh
 
 -- the items of the classes, one class after the other, are all items
 pub cut-classes : (rs : List (Run Point)) {size : ℕ} {table : List ℕ} {floats boxes₀ boxes₁ boxes₂ boxes₃ : List Float} {places₀ places₁ places₂ places₃ : List ℕ} {n₁ n₂ n₃ : ℕ}
-    → Adds (classItems Points rs) size table floats 0 boxes₀ places₀ n₁ boxes₁ places₁ → Adds (classItems Segments rs) size table floats n₁ boxes₁ places₁ n₂ boxes₂ places₂
-    → Adds (classItems Triangles rs) size table floats n₂ boxes₂ places₂ n₃ boxes₃ places₃ → Rows size table floats n₃ (itemsOf rs) boxes₃ places₃
+    → CutsMore (classItems Points rs) size table floats 0 boxes₀ places₀ n₁ boxes₁ places₁ → CutsMore (classItems Segments rs) size table floats n₁ boxes₁ places₁ n₂ boxes₂ places₂
+    → CutsMore (classItems Triangles rs) size table floats n₂ boxes₂ places₂ n₃ boxes₃ places₃ → Rows size table floats n₃ (itemsOf rs) boxes₃ places₃
 unfolding itemsOf
 cut-classes rs {size} {table} {floats} {boxes₀} {places₀ = places₀} points segments triangles =
     rw (← append-assoc) (triangles (classItems Points rs ++ classItems Segments rs) (segments (classItems Points rs) (points [] (rows-none size table floats boxes₀ places₀))))

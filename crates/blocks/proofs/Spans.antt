@@ -16,7 +16,7 @@ use Rattle.items.specs.Inner.{isOfClass, itemsBy, classItems, itemCount, itemAt
 use Rattle.items.specs.declared.Class.{Class}
 use Rattle.items.proofs.Turns.{itemsLeft, left-start, left-none, turn-item, no-items}
 use Rattle.items.proofs.Laws.{count-at-most}
-use Rattle.blocks.specs.Spans.{itemsIn, itemsPast, itemTotal}
+use Rattle.blocks.specs.Spans.{itemCountIn, itemsPast, itemTotal}
 
 -- ---- the items of a run
 module _ (class : Class) (floats : List Float) (at n : ℕ) where
@@ -63,7 +63,7 @@ module _ (class : Class) (table : List ℕ) (floats : List Float) (r at : ℕ) (
   items-split = rw (runs-next table r h floats at)
 
   -- the next item is the j-th of run r
-  pub past-item : (j : ℕ) → j < itemsIn class table r → itemsPast class table floats r at j ≡ itemAt class floats at j ∷ itemsPast class table floats r at (j + 1)
+  pub past-item : (j : ℕ) → j < itemCountIn class table r → itemsPast class table floats r at j ≡ itemAt class floats at j ∷ itemsPast class table floats r at (j + 1)
   unfolding itemsPast
   past-item j k = rw items-split (go (isOfClass class (kindAt table r)) k)
     where
@@ -72,7 +72,7 @@ module _ (class : Class) (table : List ℕ) (floats : List Float) (r at : ℕ) (
       go false k = absurd (omega arith)
 
   -- run r has no j-th item
-  pub past-run : (j : ℕ) → itemsIn class table r ≤ j → itemsPast class table floats r at j ≡ itemsPast class table floats (r + 1) (at + countAt table r) (j - itemsIn class table r)
+  pub past-run : (j : ℕ) → itemCountIn class table r ≤ j → itemsPast class table floats r at j ≡ itemsPast class table floats (r + 1) (at + countAt table r) (j - itemCountIn class table r)
   unfolding itemsPast
   past-run j k = rw items-split (go (isOfClass class (kindAt table r)) k)
     where
@@ -83,7 +83,7 @@ module _ (class : Class) (table : List ℕ) (floats : List Float) (r at : ℕ) (
           rw e
 
 -- an item of a run of n points
-pub item-of-run : (class : Class) (table : List ℕ) (r n j : ℕ) → n ≡ countAt table r → j < itemsIn class table r → j < itemCount class n
+pub item-of-run : (class : Class) (table : List ℕ) (r n j : ℕ) → n ≡ countAt table r → j < itemCountIn class table r → j < itemCount class n
 item-of-run class table r n j e h = rw e (go (isOfClass class (kindAt table r)) h)
   where
     go : (b : Bool) → j < cond b (itemCount class (countAt table r)) 0 → j < itemCount class (countAt table r)
@@ -107,7 +107,7 @@ pub none-taken : (left : ℕ) (l : List Item) → left ≡ 0 → take left l ≡
 none-taken left l e = rw e
 
 -- one item, and those after it
-module _ (class : Class) (table : List ℕ) (floats : List Float) (r at j left : ℕ) (h : r < runCount table) (k : j < itemsIn class table r) (l : 0 < left) where
+module _ (class : Class) (table : List ℕ) (floats : List Float) (r at j left : ℕ) (h : r < runCount table) (k : j < itemCountIn class table r) (l : 0 < left) where
   past-taken : take left (itemsPast class table floats r at j) ≡ itemAt class floats at j ∷ take (left - 1) (itemsPast class table floats r at (j + 1))
   past-taken =
       let e : left ≡ suc (left - 1) = omega arith in
@@ -145,7 +145,7 @@ pub past-all : (class : Class) (table : List ℕ) (floats : List Float) (n : ℕ
 unfolding itemsPast storedRuns
 past-all class table floats n h = take-all n (classItems class (runsFrom floats 0 table)) (rw (total-is class floats 0 table) h)
 
-pub total-next : (class : Class) (table : List ℕ) (r : ℕ) → r < runCount table → itemTotal class (drop (numbersPerRun * r) table) ≡ itemsIn class table r + itemTotal class (drop (numbersPerRun * (r + 1)) table)
+pub total-next : (class : Class) (table : List ℕ) (r : ℕ) → r < runCount table → itemTotal class (drop (numbersPerRun * r) table) ≡ itemCountIn class table r + itemTotal class (drop (numbersPerRun * (r + 1)) table)
 unfolding itemTotal
 total-next class table r h = rw (table-next table r h)
 

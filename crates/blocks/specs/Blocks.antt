@@ -1,4 +1,4 @@
--- Items in blocks of as many: rows of the place of each block's first item and of a box that covers the block. Serves inner contracts. Definitions only.
+-- Items in blocks: rows of the place from which each block's items are counted, and of a box that covers the block. Serves inner contracts. Definitions only.
 use Prim.Native.Nat.{ℕ, zero, suc, _+_, _-_, _*_, _/_, _<_, _≤_}
 use mathlib.Core.Path.{_≡_}
 use mathlib.Core.Bool.{cond}
@@ -11,7 +11,7 @@ use Rattle.listing.specs.Rows.{floatsPerBox, boxAt, numbersPerPlace, placeAt}
 use Rattle.blocks.specs.Cover.{coverOfItems}
 use Rattle.blocks.specs.Spans.{RoomPast, itemsFrom}
 
--- at most so many rows
+-- there is room for so many rows
 abbrev pub mostRows : ℕ
 mostRows = 131
 
@@ -39,9 +39,9 @@ module _ (size : ℕ) (table : List ℕ) (floats : List Float) where
     pub blocks : (k : ℕ) → k < n → Block boxes places k
     pub items : blocksFrom places 0 n ≡ is
 
--- whatever items the first n rows have, those and the items after them are what the first n′ rows have then
-abbrev pub Adds : List Item → ℕ → List ℕ → List Float → ℕ → List Float → List ℕ → ℕ → List Float → List ℕ → Type 0
-Adds more size table floats n boxes places n′ boxes′ places′ = (is : List Item) → Rows size table floats n is boxes places → Rows size table floats n′ (is ++ more) boxes′ places′
+-- whatever items the first n rows have, those and then `more` are what the first n′ rows have afterwards
+abbrev pub CutsMore : List Item → ℕ → List ℕ → List Float → ℕ → List Float → List ℕ → ℕ → List Float → List ℕ → Type 0
+CutsMore more size table floats n boxes places n′ boxes′ places′ = (is : List Item) → Rows size table floats n is boxes places → Rows size table floats n′ (is ++ more) boxes′ places′
 
 -- the items are in so many rows of blocks, for which there is room
 pub record Cut (n size : ℕ) (is : List Item) (table : List ℕ) (floats boxes : List Float) (places : List ℕ) : Type 0 where

@@ -15,18 +15,18 @@ use Rattle.blocks.specs.Cover.{coverOfItems}
 use Rattle.blocks.specs.declared.Span.{Span}
 
 -- how many items of a class a run has
-abbrev pub itemsOfRun : Class → ℕ → ℕ → ℕ
-itemsOfRun class kind count = cond (isOfClass class kind) (itemCount class count) 0
+abbrev pub itemCountOfRun : Class → ℕ → ℕ → ℕ
+itemCountOfRun class kind count = cond (isOfClass class kind) (itemCount class count) 0
 
 -- the same of run r of a table
-abbrev pub itemsIn : Class → List ℕ → ℕ → ℕ
-itemsIn class table r = itemsOfRun class (kindAt table r) (countAt table r)
+abbrev pub itemCountIn : Class → List ℕ → ℕ → ℕ
+itemCountIn class table r = itemCountOfRun class (kindAt table r) (countAt table r)
 
 -- how many items of a class all runs of a table have
 unfoldable pub itemTotal : Class → List ℕ → ℕ
 itemTotal class [] = 0
 itemTotal class (kind ∷ []) = 0
-itemTotal class (kind ∷ count ∷ table) = itemsOfRun class kind count + itemTotal class table
+itemTotal class (kind ∷ count ∷ table) = itemCountOfRun class kind count + itemTotal class table
 
 -- the items of a class of run r and on, whose points start at place at, but for the first j
 unfoldable pub itemsPast : Class → List ℕ → List Float → ℕ → ℕ → ℕ → List Item
@@ -40,7 +40,7 @@ RoomPast table floats r at = floatsPerCoordinate * (at + pointCount (drop (numbe
 abbrev pub itemsFrom : List ℕ → List Float → Place → List Item
 itemsFrom table floats p = itemsPast (p .class) table floats (p .r) (p .at) (p .j)
 
--- the box covers count items from a place on, or all that are left, and the next place, of the same class, stands at those after them
+-- the box covers count items from a place on, or all that are left, and from the next place on come those after them
 pub record Spanned (span : Span) (table : List ℕ) (floats : List Float) (from : Place) (count : ℕ) : Type 0 where
   pub cover : span .all ≡ coverOfItems (take count (itemsFrom table floats from))
   pub room : RoomPast table floats (span .next .r) (span .next .at)

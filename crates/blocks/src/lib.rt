@@ -1,5 +1,5 @@
-// Many items in blocks: each class of a side is cut into blocks of as many items, in order, and a box is kept that covers each block.
-// A block is told by the place of its first item; a place in a row of `listing` is a block of one item.
+// Many items in blocks: each class of a side is cut into blocks of `size` items, in order (the last of a class may have fewer), and a box
+// is kept that covers each block. A block is told by the place from which its items are counted (`itemsFrom`); a listed item is as a block of one.
 use items::Class;
 use listing::Place;
 use primitives::Aabb;
@@ -10,9 +10,9 @@ ghost use Rattle.parts.specs.Stored.{storedRuns, runCount, Laid};
 ghost use Rattle.items.specs.Items.{itemsOf};
 ghost use Rattle.items.specs.Inner.{classItems};
 ghost use Rattle.listing.specs.Rows.{floatsPerBox, numbersPerPlace};
-ghost use Rattle.blocks.specs.Spans.{itemsIn, itemTotal, RoomPast, Spanned};
+ghost use Rattle.blocks.specs.Spans.{itemCountIn, itemTotal, RoomPast, Spanned};
 ghost use Rattle.blocks.specs.Cover.{lowerOf, upperOf, coverOf, emptyCover};
-ghost use Rattle.blocks.specs.Blocks.{mostRows, blockCount, Adds, Cut};
+ghost use Rattle.blocks.specs.Blocks.{mostRows, blockCount, CutsMore, Cut};
 
 // Where some items end, and a box that covers them.
 pub struct Span {
@@ -26,13 +26,13 @@ pub struct Index {
     pub size: usize,
 }
 
-// About so many blocks: at most two more, since each class ends with a block of its own.
+// So many blocks hold all items; there are at most three more, since each class ends with a block of its own.
 const BLOCKS: usize = 128;
 
 // How many items of a class run r has.
 pub fn items_in(class: Class, table: &[u32], r: usize) -> usize
     requires { ⌜ r < runCount (now table) ⌝ }
-    ensures { λ n. ⌜ n ≡ itemsIn class (now (table .entry)) r ⌝ }
+    ensures { λ n. ⌜ n ≡ itemCountIn class (now (table .entry)) r ⌝ }
 {
     if items::is_of_class(class, parts::kind_at(table, r)) {
         return items::item_count(class, parts::count_at(table, r));
@@ -163,7 +163,7 @@ fn cut_class(
     requires { ⌜ floatsPerBox * (rows + blockCount size (itemTotal class (now table))) ≤ length (now boxes) ⌝ }
     requires { ⌜ numbersPerPlace * (rows + blockCount size (itemTotal class (now table))) ≤ length (now places) ⌝ }
     ensures { λ n. ⌜ n ≡ rows + blockCount size (itemTotal class (now (table .entry))) ⌝ }
-    ensures { λ n. ⌜ Adds (classItems class (storedRuns (now (table .entry)) (now (floats .entry)))) size (now (table .entry)) (now (floats .entry)) rows (now (boxes .entry)) (now (places .entry)) n (now (boxes .exit)) (now (places .exit)) ⌝ }
+    ensures { λ n. ⌜ CutsMore (classItems class (storedRuns (now (table .entry)) (now (floats .entry)))) size (now (table .entry)) (now (floats .entry)) rows (now (boxes .entry)) (now (places .entry)) n (now (boxes .exit)) (now (places .exit)) ⌝ }
 {
     let total = item_total(class, floats, table);
     if total == 0 {

@@ -12,7 +12,7 @@ use Rattle.listing.specs.Rows.{floatsPerBox, numbersPerPlace}
 use Rattle.listing.specs.Listing.{mostListed, listedFrom, Entries}
 use Rattle.blocks.specs.Blocks.{Cut}
 
--- so many items have their boxes and places in the rows
+-- so many items, at most 16, have their boxes and places in the rows
 pub record HasEntries (count : ℕ) (floats boxes : List Float) (places : List ℕ) : Type 0 where
   pub few : count ≤ mostListed
   pub boxes-room : floatsPerBox * count ≤ length boxes

@@ -21,7 +21,7 @@ unfoldable pub atNan : Option Witness → Bool
 atNan none = false
 atNan (some best) = ne (best .d) (best .d)
 
--- the best's distance is NaN or 0: no distance is strictly less, since none is below 0
+-- the best's distance is NaN or 0: no distance is strictly less, since none is below 0 and nothing is less than NaN
 abbrev pub Lasts : Option Witness → Type 0
 Lasts best = (atNan best ≡ true) ⊎ (atZero best ≡ true)
 

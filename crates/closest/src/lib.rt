@@ -1,11 +1,11 @@
 // The closest sweep: the items of A in order, each with the items of B in order, points before segments before triangles.
-// An item of A is skipped against the box of all of B, then a pair by its two boxes (`no_closer`); a skipped pair has no candidate that is
-// strictly closer. A best of distance NaN is never replaced, so the items of A that follow are passed over (`ends`); one of 0 neither, and
+// An item of A is skipped against the box of all of B, then a pair by its two boxes (`no_closer`): a skipped pair is not offered, which
+// document 01 has so. A best of distance NaN is never replaced, so the items of A that follow are passed over (`ends`); nor is one of 0, and
 // the sweep stops there where it is asked to. Where A is one point (`from_one_point`) each item of B is looked at once, so no box of it is
 // kept, and one point with one point needs no box at all. Else B has an index, made once: rows of a box and a place, in B's order.
 // - At most 16 items (`with_list`): a row for each. Two items that follow each other in a run share candidates; what the pair before
 //   offered is not offered again (`known`, `follows`).
-// - More (`with_blocks`): a row for each block of as many items of a class. A block is skipped as one pair is; the others are walked.
+// - More (`with_blocks`): a row for each block of items of a class. A block is skipped as one pair is; the others are walked.
 use extremes::Best;
 use extremes::ExtremePair;
 use items::Class;
@@ -13,7 +13,6 @@ use items::Shape;
 use listing::Listing;
 use listing::Place;
 use primitives::Aabb;
-use primitives::Witness;
 ghost use mathlib.Core.Path.{_≡_};
 ghost use mathlib.Core.Bool.{true, false, _&&_, cond};
 ghost use mathlib.Core.Option.{none};
@@ -48,8 +47,8 @@ pub struct Sweep {
     pub size: usize,
 }
 
-// A run of n points that start at place at.
-pub struct Run {
+// The points of a run: n of them, which start at place at.
+pub struct RunPoints {
     pub at: usize,
     pub n: usize,
 }
@@ -298,7 +297,7 @@ fn with_all(
 fn from_run(
     best: Best,
     sweep: Sweep,
-    run: Run,
+    run: RunPoints,
     floats1: &[f64],
     floats2: &[f64],
     table2: &[u32],
@@ -356,7 +355,7 @@ fn from_class(
             seen = from_run(
                 seen,
                 sweep,
-                Run { at, n },
+                RunPoints { at, n },
                 floats1,
                 floats2,
                 table2,
@@ -436,7 +435,7 @@ fn sweep_classes(
     )
 }
 
-// The sweep where B has many items, total of them: its index is of blocks.
+// The sweep where B has many items, as many as were listed: its index is of blocks.
 fn sweep_many(
     stop: bool,
     list: Listing,

@@ -29,7 +29,7 @@ use Rattle.listing.specs.declared.Listing.{Listing}
 use Rattle.listing.specs.declared.Place.{Place}
 use Rattle.listing.specs.Rows.{floatsPerBox, numbersPerPlace, placeNumbers}
 use Rattle.listing.specs.Listing.{mostListed, itemPlaced, RoomAt, listedFrom, Entries, Lists}
-use Rattle.listing.specs.Inner.{withBox, withPlace, Adds}
+use Rattle.listing.specs.Inner.{withBox, withPlace, ListsMore}
 use Rattle.listing.proofs.Rows.{box-put, box-kept, place-put, place-kept}
 use Rattle.listing.proofs.Listed.{listed-more, listed-same}
 
@@ -65,7 +65,7 @@ module _ (floats boxes : List Float) (places : List ℕ) (k : ℕ) (b : Aabb) (p
 pub lists-more : (floats boxes : List Float) (places : List ℕ) (list : Listing) (b all : Aabb) (p : Place)
     → floatsPerBox * mostListed ≤ length boxes → numbersPerPlace * mostListed ≤ length places
     → RoomAt floats p → b ≡ boxOfItem (itemPlaced floats p) → all ≡ cond (ltb 0 (list .count)) (unionOf (list .all) b) b
-    → Adds (itemPlaced floats p ∷ []) floats list boxes places (record { count = list .count + 1; all = all }) (withBox boxes (list .count) b) (withPlace places (list .count) p)
+    → ListsMore (itemPlaced floats p ∷ []) floats list boxes places (record { count = list .count + 1; all = all }) (withBox boxes (list .count) b) (withPlace places (list .count) p)
 unfolding boxOfItems
 lists-more floats boxes places list b all p hb hp room b-is all-is is l =
     record {
@@ -92,8 +92,8 @@ run-next class floats table at r n k h n-is k-is = rw (runs-next table r h float
 
 -- the items of the classes, one class after the other, are all items
 pub lists-classes : (rs : List (Run Point)) {floats : List Float} {list₀ list₁ list₂ list₃ : Listing} {boxes₀ boxes₁ boxes₂ boxes₃ : List Float} {places₀ places₁ places₂ places₃ : List ℕ}
-    → Lists list₀ [] floats boxes₀ places₀ → Adds (classItems Points rs) floats list₀ boxes₀ places₀ list₁ boxes₁ places₁
-    → Adds (classItems Segments rs) floats list₁ boxes₁ places₁ list₂ boxes₂ places₂ → Adds (classItems Triangles rs) floats list₂ boxes₂ places₂ list₃ boxes₃ places₃
+    → Lists list₀ [] floats boxes₀ places₀ → ListsMore (classItems Points rs) floats list₀ boxes₀ places₀ list₁ boxes₁ places₁
+    → ListsMore (classItems Segments rs) floats list₁ boxes₁ places₁ list₂ boxes₂ places₂ → ListsMore (classItems Triangles rs) floats list₂ boxes₂ places₂ list₃ boxes₃ places₃
     → Lists list₃ (itemsOf rs) floats boxes₃ places₃
 unfolding itemsOf
 lists-classes rs start points segments triangles = rw (← append-assoc) (triangles (classItems Points rs ++ classItems Segments rs) (segments (classItems Points rs) (points [] start)))

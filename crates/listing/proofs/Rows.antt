@@ -13,7 +13,7 @@ use Rattle.items.specs.declared.Class.{Class}
 use Rattle.items.specs.declared.Class.the-variants.{Points, Segments, Triangles}
 use Rattle.listing.specs.declared.Place.{Place}
 use Rattle.listing.specs.Rows.{floatsPerBox, boxFloats, boxAt, numbersPerPlace, codeOf, classOfCode, placeNumbers, placeAt}
-use Rattle.listing.specs.Listing.{pointsIn}
+use Rattle.listing.specs.Listing.{pointCountOf}
 
 -- what stands before a row of stores stays
 pub sets-before : {A : Type 0} (vs l : List A) (i j : ℕ) (d : A) → j < i → getD (sets l i vs) j d ≡ getD l j d
@@ -63,13 +63,13 @@ module _ (places : List ℕ) (k : ℕ) (p : Place) where
 
 -- ---- the points of an item
 -- item j is an item of the run that ends with its points
-pub last-item : (class : Class) (j : ℕ) → j < itemCount class (j + pointsIn class)
+pub last-item : (class : Class) (j : ℕ) → j < itemCount class (j + pointCountOf class)
 last-item Points j = omega arith
 last-item Segments j = omega arith
 last-item Triangles j = omega arith
 
 -- an item's points are among the run's
-pub points-within : (class : Class) (j n : ℕ) → j < itemCount class n → j + pointsIn class ≤ n
+pub points-within : (class : Class) (j n : ℕ) → j < itemCount class n → j + pointCountOf class ≤ n
 points-within Points j n h = omega arith
 points-within Segments j n h = omega arith
 points-within Triangles j n h = omega arith

@@ -20,6 +20,6 @@ withBox boxes k b = cond (ltb k mostListed) (sets boxes (floatsPerBox * k) (boxF
 abbrev pub withPlace : List ℕ → ℕ → Place → List ℕ
 withPlace places k p = cond (ltb k mostListed) (sets places (numbersPerPlace * k) (placeNumbers p)) places
 
--- whatever the first listing lists, that and the items after it are what the second lists
-abbrev pub Adds : List Item → List Float → Listing → List Float → List ℕ → Listing → List Float → List ℕ → Type 0
-Adds more floats list boxes places list′ boxes′ places′ = (is : List Item) → Lists list is floats boxes places → Lists list′ (is ++ more) floats boxes′ places′
+-- whatever the first listing lists, that and then `more` are what the second lists
+abbrev pub ListsMore : List Item → List Float → Listing → List Float → List ℕ → Listing → List Float → List ℕ → Type 0
+ListsMore more floats list boxes places list′ boxes′ places′ = (is : List Item) → Lists list is floats boxes places → Lists list′ (is ++ more) floats boxes′ places′

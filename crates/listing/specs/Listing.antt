@@ -30,10 +30,10 @@ boundsOf list = cond (ltb 0 (list .count)) (some (list .all)) none
 -- ---- items by their places
 
 -- how many points an item of the class has
-abbrev pub pointsIn : Class → ℕ
-pointsIn Points = 1
-pointsIn Segments = 2
-pointsIn Triangles = 3
+abbrev pub pointCountOf : Class → ℕ
+pointCountOf Points = 1
+pointCountOf Segments = 2
+pointCountOf Triangles = 3
 
 -- the item at a place
 abbrev pub itemPlaced : List Float → Place → Item
@@ -41,7 +41,7 @@ itemPlaced floats p = itemAt (p .class) floats (p .at) (p .j)
 
 -- there is a float for each ordinate of the run up to the item at a place
 abbrev pub RoomAt : List Float → Place → Type 0
-RoomAt floats p = floatsPerCoordinate * (p .at + (p .j + pointsIn (p .class))) ≤ length floats
+RoomAt floats p = floatsPerCoordinate * (p .at + (p .j + pointCountOf (p .class))) ≤ length floats
 
 -- the item at the k-th place
 abbrev pub listedItem : List Float → List ℕ → ℕ → Item

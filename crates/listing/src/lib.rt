@@ -16,13 +16,14 @@ ghost use Rattle.parts.specs.Stored.{pointsFrom, storedRuns, pointCount, Laid};
 ghost use Rattle.items.specs.Items.{itemsOf};
 ghost use Rattle.items.specs.Inner.{itemOf, isOfClass, itemsBy, classItems, itemCount};
 ghost use Rattle.listing.specs.Rows.{floatsPerBox, boxFloats, boxAt, numbersPerPlace, codeOf, classOfCode, placeNumbers, placeAt};
-ghost use Rattle.listing.specs.Listing.{mostListed, pointsIn, itemPlaced, RoomAt, Lists};
-ghost use Rattle.listing.specs.Inner.{withBox, withPlace, Adds};
+ghost use Rattle.listing.specs.Listing.{mostListed, pointCountOf, itemPlaced, RoomAt, Lists};
+ghost use Rattle.listing.specs.Inner.{withBox, withPlace, ListsMore};
 
 // At most so many items are listed with box and place.
 pub const LISTED: usize = 16;
 
-// Item j of run r, which is of the class and whose points start at place at.
+// Item j of run r, which is of the class and whose points start at place at. In `blocks`: the items of the class from run r on, but for the
+// first j.
 pub struct Place {
     pub class: Class,
     pub r: usize,
@@ -92,7 +93,7 @@ fn class_of(code: usize) -> Class
 
 // How many points an item of the class has.
 fn points_in(class: Class) -> usize
-    ensures { λ n. ⌜ n ≡ pointsIn class ⌝ }
+    ensures { λ n. ⌜ n ≡ pointCountOf class ⌝ }
 {
     match class {
         Class::Points => 1,
@@ -177,7 +178,7 @@ fn list_item(
     requires { ⌜ floatsPerBox * mostListed ≤ length (now boxes) ⌝ }
     requires { ⌜ numbersPerPlace * mostListed ≤ length (now places) ⌝ }
     ensures { λ r. ⌜ r .count ≡ list .count + 1 ⌝ }
-    ensures { λ r. ⌜ Adds (itemPlaced (now (floats .entry)) p ∷ []) (now (floats .entry)) list (now (boxes .entry)) (now (places .entry)) r (now (boxes .exit)) (now (places .exit)) ⌝ }
+    ensures { λ r. ⌜ ListsMore (itemPlaced (now (floats .entry)) p ∷ []) (now (floats .entry)) list (now (boxes .entry)) (now (places .entry)) r (now (boxes .exit)) (now (places .exit)) ⌝ }
 {
     let class = p.class;
     let all = list.all;
@@ -204,7 +205,7 @@ fn list_items(
     requires { ⌜ floatsPerBox * mostListed ≤ length (now boxes) ⌝ }
     requires { ⌜ numbersPerPlace * mostListed ≤ length (now places) ⌝ }
     ensures { λ r. ⌜ r .count ≤ list .count + n ⌝ }
-    ensures { λ r. ⌜ Adds (itemsBy (first .class) (pointsFrom (now (floats .entry)) (first .at) n)) (now (floats .entry)) list (now (boxes .entry)) (now (places .entry)) r (now (boxes .exit)) (now (places .exit)) ⌝ }
+    ensures { λ r. ⌜ ListsMore (itemsBy (first .class) (pointsFrom (now (floats .entry)) (first .at) n)) (now (floats .entry)) list (now (boxes .entry)) (now (places .entry)) r (now (boxes .exit)) (now (places .exit)) ⌝ }
 {
     let class = first.class;
     let r = first.r;
@@ -234,7 +235,7 @@ fn list_run(
     requires { ⌜ floatsPerBox * mostListed ≤ length (now boxes) ⌝ }
     requires { ⌜ numbersPerPlace * mostListed ≤ length (now places) ⌝ }
     ensures { λ r. ⌜ r .count ≤ list .count + n ⌝ }
-    ensures { λ r. ⌜ Adds (cond (isOfClass (first .class) kind) (itemsBy (first .class) (pointsFrom (now (floats .entry)) (first .at) n)) []) (now (floats .entry)) list (now (boxes .entry)) (now (places .entry)) r (now (boxes .exit)) (now (places .exit)) ⌝ }
+    ensures { λ r. ⌜ ListsMore (cond (isOfClass (first .class) kind) (itemsBy (first .class) (pointsFrom (now (floats .entry)) (first .at) n)) []) (now (floats .entry)) list (now (boxes .entry)) (now (places .entry)) r (now (boxes .exit)) (now (places .exit)) ⌝ }
 {
     let class = first.class;
     if items::is_of_class(class, kind) {
@@ -257,7 +258,7 @@ fn list_class(
     requires { ⌜ floatsPerBox * mostListed ≤ length (now boxes) ⌝ }
     requires { ⌜ numbersPerPlace * mostListed ≤ length (now places) ⌝ }
     ensures { λ r. ⌜ r .count ≤ list .count + pointCount (now (table .entry)) ⌝ }
-    ensures { λ r. ⌜ Adds (classItems class (storedRuns (now (table .entry)) (now (floats .entry)))) (now (floats .entry)) list (now (boxes .entry)) (now (places .entry)) r (now (boxes .exit)) (now (places .exit)) ⌝ }
+    ensures { λ r. ⌜ ListsMore (classItems class (storedRuns (now (table .entry)) (now (floats .entry)))) (now (floats .entry)) list (now (boxes .entry)) (now (places .entry)) r (now (boxes .exit)) (now (places .exit)) ⌝ }
 {
     let mut seen = list;
     let count = parts::run_count(table);
@@ -274,7 +275,7 @@ fn list_class(
     seen
 }
 
-// All items of a side in order, the first 16 with box and place.
+// All items of a side in order; if they are at most 16, each with box and place.
 pub fn list_all(floats: &[f64], table: &[u32], boxes: &mut [f64], places: &mut [usize]) -> Listing
     requires { ⌜ Laid (now table) (now floats) ⌝ }
     requires { ⌜ floatsPerBox * mostListed ≤ length (now boxes) ⌝ }

@@ -27,7 +27,7 @@ use Rattle.operands.specs.declared.Checked.the-variants as checked
 use Rattle.operands.proofs.Meaning.{refused-is-first, AreAccepted, are-accepted}
 use Rattle.outcomes.specs.Answers.{Value, Report, answering, answerReport}
 use Rattle.outcomes.specs.Operations.{outcome, noSide, toleranceChecks, unless, distanceValue, withinValue, touchingValue, blobValue}
-use Rattle.outcomes.specs.Inner.{askedChecks, belowZero, tooShort, memoryBy, storedBy, ReadBoth, sweptOf, sweptBy, PairSwept, sweptAnswer, decidedReport, sweptReport, sweptOutput, SweptWritten, Fits}
+use Rattle.outcomes.specs.Inner.{askedChecks, belowZero, tooShort, memoryBy, storedBy, ReadBoth, sweptOf, sweptBy, PairSwept, sweptAnswer, decidedReport, sweptReport, sweptOutput, SweptWritten, HasRoom}
 use Rattle.outcomes.specs.declared.Asked.{Asked}
 use Rattle.outcomes.specs.declared.Asked.the-variants as asked
 use Rattle.outcomes.specs.declared.BothRead.{BothRead}
@@ -171,15 +171,15 @@ module _ {first : Option Refusal} {p : Option Witness} {a b : List ℕ} {w w′ 
   written after kept {lent} e = rw (e .told, e .left) (made blobValue after kept lent)
 
 -- an output that is not refused has room for the pair
-pub room : (lent needed : ℕ) (cs : List (Check Refusal)) (p : Option Witness) (srid : ℕ) (r : Swept) → r ≡ sweptBy (firstOf (askedChecks (asked.Bytes lent needed) cs)) p srid → Fits needed lent r
-unfolding askedChecks sweptBy sweptOf answerOf Fits
+pub room : (lent needed : ℕ) (cs : List (Check Refusal)) (p : Option Witness) (srid : ℕ) (r : Swept) → r ≡ sweptBy (firstOf (askedChecks (asked.Bytes lent needed) cs)) p srid → HasRoom needed lent r
+unfolding askedChecks sweptBy sweptOf answerOf HasRoom
 room lent needed cs p srid r e = rw e (go (firstOf (askedChecks (asked.Bytes lent needed) cs)) refl p)
   where
     enough : (short : Bool) → ltb lent needed ≡ short → cond short (some (noSide 16)) none ≡ none → needed ≤ lent
     enough true e f = let z : _≡_ {A = ℕ} 0 1 = cc in absurd (omega arith)
     enough false e f = ltb-false lent needed e
 
-    go : (x : Option Refusal) → firstOf (askedChecks (asked.Bytes lent needed) cs) ≡ x → (p : Option Witness) → Fits needed lent (sweptBy x p srid)
+    go : (x : Option Refusal) → firstOf (askedChecks (asked.Bytes lent needed) cs) ≡ x → (p : Option Witness) → HasRoom needed lent (sweptBy x p srid)
     go (some t) f p = tt
     go none f none = tt
     go none f (some x) = enough (ltb lent needed) refl (sym (first-of-one (noSide 16) (ltb lent needed)) ∙ none-of-both (firstOf cs) _ (sym (first-of-two cs (check (noSide 16) (ltb lent needed) ∷ [])) ∙ f) .1)

@@ -19,7 +19,7 @@ pub record MeasuredAlike (s t : List ℕ) : Type 0 where
   pub srid : sridOf s ≡ sridOf t
   pub points : mapRuns pointOf (runsOfBlob s) ≡ mapRuns pointOf (runsOfBlob t)
 
--- two calls answer alike: the same report, the same output (workspaces hold all that is read, and may differ in what is not measured)
+-- two calls answer alike: the same report, the same output; nothing is said of the workspaces
 pub record AnswersAlike (o p : Outcome) : Type 0 where
   pub report : o .report ≡ p .report
   pub output : o .output ≡ p .output

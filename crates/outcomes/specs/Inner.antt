@@ -106,7 +106,7 @@ pub record SweptWritten (after : ℕ → Option Witness → List ℕ → List �
   pub left : output′ ≡ sweptOutput after r output
 
 -- so many bytes are there for the pair, if there is one
-unfoldable pub Fits : ℕ → ℕ → Swept → Type 0
-Fits needed lent (swept.Refused r) = Unit {0}
-Fits needed lent swept.Nothing = Unit {0}
-Fits needed lent (swept.Found x srid) = needed ≤ lent
+unfoldable pub HasRoom : ℕ → ℕ → Swept → Type 0
+HasRoom needed lent (swept.Refused r) = Unit {0}
+HasRoom needed lent swept.Nothing = Unit {0}
+HasRoom needed lent (swept.Found x srid) = needed ≤ lent

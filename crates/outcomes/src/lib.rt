@@ -15,7 +15,7 @@ ghost use Rattle.outcomes.specs.Lent.{lent, left};
 ghost use Rattle.outcomes.specs.Answers.{decisionReport, writtenReport};
 ghost use Rattle.outcomes.specs.Operations.{lineAfter, pointAfter};
 ghost use Rattle.outcomes.specs.Inner.{belowZero, tooShort, firstAsked, ReadBoth};
-ghost use Rattle.outcomes.specs.Inner.{sweptOf, sweptAnswer, decidedReport, SweptWritten, Fits};
+ghost use Rattle.outcomes.specs.Inner.{sweptOf, sweptAnswer, decidedReport, SweptWritten, HasRoom};
 
 // A number (may be NaN), none, or a refusal.
 pub enum Answer {
@@ -181,7 +181,7 @@ pub fn touching(answer: Answer) -> Decision
 
 // The line of the pair, from side 1's point to side 2's.
 pub fn write_line(pair: Swept, output: &mut [u8]) -> Written
-    requires { ⌜ Fits lineBytes (length (now output)) pair ⌝ }
+    requires { ⌜ HasRoom lineBytes (length (now output)) pair ⌝ }
     ensures { λ r. ⌜ SweptWritten lineAfter pair (now (output .entry)) (now (output .exit)) (writtenReport r) ⌝ }
 {
     match pair {
@@ -196,7 +196,7 @@ pub fn write_line(pair: Swept, output: &mut [u8]) -> Written
 
 // Side 1's point of the pair.
 pub fn write_point(pair: Swept, output: &mut [u8]) -> Written
-    requires { ⌜ Fits pointBytes (length (now output)) pair ⌝ }
+    requires { ⌜ HasRoom pointBytes (length (now output)) pair ⌝ }
     ensures { λ r. ⌜ SweptWritten pointAfter pair (now (output .entry)) (now (output .exit)) (writtenReport r) ⌝ }
 {
     match pair {

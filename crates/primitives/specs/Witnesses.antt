@@ -10,7 +10,7 @@ use Rattle.primitives.specs.Vectors.{squaredDistance}
 unfoldable pub witnessOf : Float → Point → Point → Witness
 witnessOf d a b = record { d = d; ax = a .x; ay = a .y; az = a .z; bx = b .x; by = b .y; bz = b .z }
 
--- the distance of a and b: differences, squares, sum left to right, root
+-- the witness of a and b, with their distance: differences, squares, sum left to right, root
 unfoldable pub betweenOf : Point → Point → Witness
 betweenOf a b = witnessOf (rootOf (squaredDistance a b)) a b
 

@@ -87,7 +87,7 @@ patchValue patch-range.Nothing = nothing
 patchValue patch-range.NoSurface = noSurface
 patchValue (patch-range.Refused r) = refusing (r .number) (r .side)
 
--- the n-th of a list, if there is one
+-- the patch at a range, if there is one
 unfoldable pub patchThere : Option Range → Patch
 patchThere (some r) = part (r .start) (r .end)
 patchThere none = nothing

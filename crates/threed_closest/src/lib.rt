@@ -79,7 +79,7 @@ pub fn st_3d_distance(
     outcomes::measured(pair)
 }
 
-// Whether the distance is at most d.
+// Whether the distance is at most d; no where there is none.
 pub fn st_3d_dwithin(
     a: &[u8],
     b: &[u8],
@@ -106,7 +106,7 @@ pub fn st_3d_dwithin(
     outcomes::within(answer, d)
 }
 
-// Whether the distance is 0.
+// Whether the distance is 0; no where there is none.
 pub fn st_3d_intersects(
     a: &[u8],
     b: &[u8],

@@ -8,7 +8,7 @@ use lib.ListN.{take, drop}
 use Rattle.parts.specs.Stored.{runCount}
 use Rattle.parts.proofs.Turns.{room-run, room-next}
 use Rattle.blocks.specs.Cover.{coverItem, coverOfItems}
-use Rattle.blocks.specs.Spans.{itemsIn, itemsPast, RoomPast}
+use Rattle.blocks.specs.Spans.{itemCountIn, itemsPast, RoomPast}
 use Rattle.blocks.proofs.Spans.{turn-past, drop-past, past-run, end-taken, end-past, item-of-run}
 use Rattle.blocks.proofs.cover_span.Statement.{statement}
 use Rattle.blocks.proofs.cover_span.Tie as tie
@@ -73,7 +73,7 @@ unfolding coverItem
 loop-again c = let args = c .before .before .before .before .before .before .before .before .before .before .before .before .before .args in
     let loop = c .before .before .before .before .before .before .before .before .loop in
     let h : loop .r < runCount (args .table .now) = omega (arith, c .before .before .before .before .before .before .before .before .before .before .run-count .ensures) in
-    let k : loop .j < itemsIn (args .from .class) (args .table .now) (loop .r) = omega (arith, c .before .before .before .before .items-in .ensures) in (
+    let k : loop .j < itemCountIn (args .from .class) (args .table .now) (loop .r) = omega (arith, c .before .before .before .before .items-in .ensures) in (
       loop .inv .0,
       turn-past (args .from .class) (args .table .now) (args .floats .now) (loop .r) (loop .at) (loop .j) (loop .left) h k (omega arith) (foldl coverItem) (c .before .before .item-at .ensures) (λ l. rw (c .cover .ensures, c .before .box-of .ensures)) ∙ loop .inv .1,
       drop-past (args .from .class) (args .table .now) (args .floats .now) (loop .r) (loop .at) (loop .j) (loop .left) h k (omega arith) ∙ loop .inv .2,

@@ -1,13 +1,13 @@
 -- `outcomes::write_line` meets its contract. Assumes nothing.
 use Rattle.outcomes.specs.Answers.{writtenReport}
 use Rattle.outcomes.specs.Operations.{blobValue, lineAfter}
-use Rattle.outcomes.specs.Inner.{sweptReport, sweptOutput, Fits}
+use Rattle.outcomes.specs.Inner.{sweptReport, sweptOutput, HasRoom}
 use borrow.Author.Needs.{needs}
 use Rattle.outcomes.proofs.write_line.Statement.{statement}
 use Rattle.outcomes.proofs.write_line.Tie as tie
 
 write-line-requires : tie.Need-write-line-requires
-unfolding Fits
+unfolding HasRoom
 write-line-requires c κs = rw (c .before .before .pair2 .given .1) at (c .before .before .before .before .before .pre)
 
 returns : tie.Need-returns

@@ -1,13 +1,13 @@
 -- `outcomes::write_point` meets its contract. Assumes nothing.
 use Rattle.outcomes.specs.Answers.{writtenReport}
 use Rattle.outcomes.specs.Operations.{blobValue, pointAfter}
-use Rattle.outcomes.specs.Inner.{sweptReport, sweptOutput, Fits}
+use Rattle.outcomes.specs.Inner.{sweptReport, sweptOutput, HasRoom}
 use borrow.Author.Needs.{needs}
 use Rattle.outcomes.proofs.write_point.Statement.{statement}
 use Rattle.outcomes.proofs.write_point.Tie as tie
 
 write-point-requires : tie.Need-write-point-requires
-unfolding Fits
+unfolding HasRoom
 write-point-requires c κs = rw (c .before .before .pair2 .given .1) at (c .before .before .before .before .before .pre)
 
 returns : tie.Need-returns
