@@ -14,7 +14,7 @@ use Rattle.listing.specs.Rows.{floatsPerBox, numbersPerPlace}
 use Rattle.listing.specs.Listing.{mostListed, Lists}
 use Rattle.items.specs.Closest.{sweepOf, closestWithin, closestOf}
 use Rattle.blocks.specs.Blocks.{Cut}
-use Rattle.closest.specs.Indexed.{Indexed}
+use Rattle.against.specs.Indexed.{Indexed}
 
 pub cut-indexed : (size rows : ℕ) (table : List ℕ) (floats boxes : List Float) (places : List ℕ) → 1 < size → Cut rows size (itemsOf (storedRuns table floats)) table floats boxes places → Indexed size rows table floats boxes places
 cut-indexed size rows table floats boxes places h k = record { entries = λ e. absurd (omega arith); items = λ e. absurd (omega arith); cut = λ f. k }

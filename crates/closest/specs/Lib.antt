@@ -1,3 +1,1 @@
 pub mod Inner
-pub mod Indexed
-pub mod Known

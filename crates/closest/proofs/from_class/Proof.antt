@@ -14,7 +14,7 @@ use Rattle.items.specs.Inner.{classItems}
 use Rattle.extremes.specs.InnerBest.{bestOf, Sound}
 use Rattle.items.specs.Items.{itemsOf}
 use Rattle.items.specs.Closest.{sweepOf}
-use Rattle.closest.proofs.Folds.{sweep-append}
+use Rattle.against.proofs.Folds.{sweep-append}
 use Rattle.closest.proofs.from_class.Statement.{statement}
 use Rattle.closest.proofs.from_class.Tie as tie
 

@@ -7,7 +7,7 @@ use Rattle.extremes.specs.Sweeps.{skipping}
 use Rattle.items.specs.Items.{itemsOf}
 use Rattle.items.specs.Closest.{withItem, withEach}
 use Rattle.extremes.specs.ClosestSweep.{noCloser}
-use Rattle.closest.proofs.Folds.{each-append}
+use Rattle.against.proofs.Folds.{each-append}
 use Rattle.closest.proofs.OnePoint.{one-item, one-laid}
 use Rattle.closest.proofs.from_one_point.Statement.{statement}
 use Rattle.closest.proofs.from_one_point.Tie as tie

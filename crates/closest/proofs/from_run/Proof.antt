@@ -13,10 +13,10 @@ use Rattle.extremes.specs.InnerBest.{bestOf, Sound}
 use Rattle.items.specs.Items.{itemsOf}
 use Rattle.items.specs.InnerRepeats.{firstBefore}
 use Rattle.items.specs.Closest.{sweepOf}
-use Rattle.closest.specs.Indexed.{listedRows}
-use Rattle.closest.specs.Known.{Known}
-use Rattle.closest.proofs.Folds.{sweep-next, sweep-lasts}
-use Rattle.closest.proofs.Known.{none-known}
+use Rattle.against.specs.Indexed.{listedRows}
+use Rattle.against.specs.Known.{Known}
+use Rattle.against.proofs.Folds.{sweep-next, sweep-lasts}
+use Rattle.against.proofs.Known.{none-known}
 use Rattle.closest.proofs.from_run.Statement.{statement}
 use Rattle.closest.proofs.from_run.Tie as tie
 

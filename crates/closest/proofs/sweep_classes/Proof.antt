@@ -1,7 +1,7 @@
 -- `closest::sweep_classes` meets its contract. Assumes nothing.
 use mathlib.Core.Path.{_∙_}
 use Rattle.items.specs.Items.{itemsOf}
-use Rattle.closest.proofs.Folds.{sweep-append}
+use Rattle.against.proofs.Folds.{sweep-append}
 use borrow.Author.Needs.{needs}
 use Rattle.closest.proofs.sweep_classes.Statement.{statement}
 use Rattle.closest.proofs.sweep_classes.Tie as tie

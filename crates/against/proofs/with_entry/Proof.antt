@@ -1,8 +1,8 @@
--- `closest::with_entry` meets its contract. Assumes nothing.
+-- `against::with_entry` meets its contract. Assumes nothing.
 use Rattle.items.specs.Closest.{withItem}
-use Rattle.closest.proofs.Known.{again-settled}
-use Rattle.closest.proofs.with_entry.Statement.{statement}
-use Rattle.closest.proofs.with_entry.Tie as tie
+use Rattle.against.proofs.Known.{again-settled}
+use Rattle.against.proofs.with_entry.Statement.{statement}
+use Rattle.against.proofs.with_entry.Tie as tie
 
 place-at-requires : tie.Need-place-at-requires
 place-at-requires c κs = c .before .before .pre .1 .0 .0

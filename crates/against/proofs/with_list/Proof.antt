@@ -1,4 +1,4 @@
--- `closest::with_list` meets its contract. The invariant: what is left of the listed items, done from the best so far, gives the whole; what is known of them. Assumes nothing.
+-- `against::with_list` meets its contract. The invariant: what is left of the listed items, done from the best so far, gives the whole; what is known of them. Assumes nothing.
 use mathlib.Core.Logic.{⊎-elim}
 use mathlib.Core.Path.{_≡_, refl, sym, ap, _∙_}
 use mathlib.Core.Bool.{cond}
@@ -15,10 +15,10 @@ use Rattle.listing.specs.Listing.{listedItem, listedFrom}
 use Rattle.listing.proofs.Listed.{listed-next, listed-none}
 use Rattle.items.specs.Closest.{withItem, withEach}
 use Rattle.extremes.specs.ClosestSweep.{noCloser}
-use Rattle.closest.proofs.Folds.{and-true, each-none, each-next, each-at-zero}
-use Rattle.closest.proofs.Known.{Walked, walked-start, walked-next, walked-end, known-zero}
-use Rattle.closest.proofs.with_list.Statement.{statement}
-use Rattle.closest.proofs.with_list.Tie as tie
+use Rattle.against.proofs.Folds.{and-true, each-none, each-next, each-at-zero}
+use Rattle.against.proofs.Known.{Walked, walked-start, walked-next, walked-end, known-zero}
+use Rattle.against.proofs.with_list.Statement.{statement}
+use Rattle.against.proofs.with_list.Tie as tie
 
 abbrev Inv-loop : tie.InvT-loop
 Inv-loop a a-box floats boxes places known₀ stop count seen₀ measured₀ k₀ known seen measured k = (k ≤ count)

@@ -26,8 +26,8 @@ use Rattle.items.proofs.Repeats.{measured-first, measured-second, second-turn, 
 use Rattle.listing.specs.Rows.{numbersPerPlace, placeAt}
 use Rattle.listing.specs.Listing.{listedItem}
 use Rattle.items.specs.Closest.{withItem}
-use Rattle.closest.specs.Inner.{atZero}
-use Rattle.closest.specs.Known.{Known, MeasuredBefore, Follows}
+use Rattle.against.specs.Inner.{atZero}
+use Rattle.against.specs.Known.{Known, MeasuredBefore, Follows}
 
 -- ---- a best of distance 0 settles all
 unbeaten-zero : (s : Option Witness) → atZero s ≡ true → (w : Witness) → Distant w → Unbeaten shorter s w

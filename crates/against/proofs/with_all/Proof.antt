@@ -1,11 +1,11 @@
--- `closest::with_all` meets its contract. Assumes nothing.
+-- `against::with_all` meets its contract. Assumes nothing.
 use mathlib.Core.Path.{_≡_, sym, _∙_}
 use mathlib.Core.Bool.{false≢true}
 use native.Mathlib.Omega.{arith}
 use borrow.Author.Tests.{ne-eqb}
 use borrow.Author.Needs.{needs}
-use Rattle.closest.proofs.with_all.Statement.{statement}
-use Rattle.closest.proofs.with_all.Tie as tie
+use Rattle.against.proofs.with_all.Statement.{statement}
+use Rattle.against.proofs.with_all.Tie as tie
 
 box-of-requires : tie.Need-box-of-requires
 box-of-requires c κs = search needs

@@ -1,4 +1,4 @@
--- `closest::ends` meets its contract. Assumes nothing.
+-- `against::ends` meets its contract. Assumes nothing.
 use mathlib.Core.Path.{_≡_, sym, subst, _∙_}
 use mathlib.Core.Bool.{true, false}
 use mathlib.Core.Logic.{inl, inr}
@@ -10,10 +10,10 @@ use Rattle.ieee754.specs.MinMax.{positiveZero}
 use Rattle.ieee754.proofs.FloatOrder.{lt-nan-left}
 use Rattle.extremes.specs.declared.Best.{Best}
 use Rattle.extremes.specs.InnerBest.{bestOf}
-use Rattle.closest.specs.Inner.{atNan}
-use Rattle.closest.proofs.Folds.{and-true}
-use Rattle.closest.proofs.ends.Statement.{statement}
-use Rattle.closest.proofs.ends.Tie as tie
+use Rattle.against.specs.Inner.{atNan}
+use Rattle.against.proofs.Folds.{and-true}
+use Rattle.against.proofs.ends.Statement.{statement}
+use Rattle.against.proofs.ends.Tie as tie
 
 -- a best of distance NaN is no empty one
 held-at-nan : (b : Best) → ne (b .witness .d) (b .witness .d) ≡ true → atNan (bestOf b) ≡ true

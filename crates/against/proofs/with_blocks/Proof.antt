@@ -1,4 +1,4 @@
--- `closest::with_blocks` meets its contract. The invariant: what is left of the blocks' items, done from the best so far, gives the whole. Assumes nothing.
+-- `against::with_blocks` meets its contract. The invariant: what is left of the blocks' items, done from the best so far, gives the whole. Assumes nothing.
 use mathlib.Core.Logic.{⊎-elim}
 use mathlib.Core.Path.{_≡_, sym, ap, _∙_}
 use Prim.Native.Nat.{_+_, _-_, _≤_}
@@ -14,9 +14,9 @@ use Rattle.listing.specs.Rows.{placeAt}
 use Rattle.blocks.specs.Blocks.{blockItems, blocksFrom}
 use Rattle.blocks.proofs.Blocks.{blocks-start, blocks-next, blocks-none, block-passed}
 use Rattle.blocks.proofs.ItemBoxes.{fitting-by}
-use Rattle.closest.proofs.Folds.{and-true, each-none, each-append, each-at-zero}
-use Rattle.closest.proofs.with_blocks.Statement.{statement}
-use Rattle.closest.proofs.with_blocks.Tie as tie
+use Rattle.against.proofs.Folds.{and-true, each-none, each-append, each-at-zero}
+use Rattle.against.proofs.with_blocks.Statement.{statement}
+use Rattle.against.proofs.with_blocks.Tie as tie
 
 abbrev Inv-loop : tie.InvT-loop
 Inv-loop a a-box floats table boxes places stop rows size seen₀ k₀ seen k = (k ≤ rows)

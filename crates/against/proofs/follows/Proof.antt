@@ -1,11 +1,11 @@
--- `closest::follows` meets its contract. Assumes nothing.
+-- `against::follows` meets its contract. Assumes nothing.
 use mathlib.Core.Bool.{false≢true}
 use native.Mathlib.Omega.{arith}
 use borrow.Author.Needs.{needs}
 use borrow.Author.Tests.{eqb-true}
-use Rattle.closest.proofs.Known.{follows-by}
-use Rattle.closest.proofs.follows.Statement.{statement}
-use Rattle.closest.proofs.follows.Tie as tie
+use Rattle.against.proofs.Known.{follows-by}
+use Rattle.against.proofs.follows.Statement.{statement}
+use Rattle.against.proofs.follows.Tie as tie
 
 mul-i : tie.Need-mul-i
 mul-i c = search needs

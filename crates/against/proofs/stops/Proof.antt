@@ -1,8 +1,8 @@
--- `closest::stops` meets its contract. Assumes nothing.
+-- `against::stops` meets its contract. Assumes nothing.
 use lib.Ieee.{ofBits}
-use Rattle.closest.specs.Inner.{atZero}
-use Rattle.closest.proofs.stops.Statement.{statement}
-use Rattle.closest.proofs.stops.Tie as tie
+use Rattle.against.specs.Inner.{atZero}
+use Rattle.against.proofs.stops.Statement.{statement}
+use Rattle.against.proofs.stops.Tie as tie
 
 returns : tie.Need-returns
 unfolding atZero ofBits

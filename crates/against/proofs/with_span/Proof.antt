@@ -1,4 +1,4 @@
--- `closest::with_span` meets its contract. The invariant: what is left of the span, done from the best so far, gives the whole; the floats hold the runs left; whether the last item was measured. Assumes nothing.
+-- `against::with_span` meets its contract. The invariant: what is left of the span, done from the best so far, gives the whole; the floats hold the runs left; whether the last item was measured. Assumes nothing.
 use mathlib.Core.Logic.{⊎-elim}
 use mathlib.Core.Bool.{true, false≢true, cond}
 use mathlib.Core.Path.{_≡_, refl, sym, ap, _∙_}
@@ -19,11 +19,11 @@ use Rattle.extremes.specs.InnerBest.{bestOf, Sound, Keeps}
 use Rattle.items.specs.Closest.{withItem, withEach}
 use Rattle.extremes.specs.ClosestSweep.{noCloser}
 use Rattle.blocks.specs.Spans.{itemsPast, RoomPast}
-use Rattle.closest.proofs.Folds.{and-true, each-none, each-next, each-at-zero}
-use Rattle.closest.proofs.Known.{again-next}
+use Rattle.against.proofs.Folds.{and-true, each-none, each-next, each-at-zero}
+use Rattle.against.proofs.Known.{again-next}
 use Rattle.blocks.proofs.Spans.{turn-past, past-run, none-taken, end-taken, item-of-run}
-use Rattle.closest.proofs.with_span.Statement.{statement}
-use Rattle.closest.proofs.with_span.Tie as tie
+use Rattle.against.proofs.with_span.Statement.{statement}
+use Rattle.against.proofs.with_span.Tie as tie
 
 abbrev Inv-loop : tie.InvT-loop
 Inv-loop stop a a-box floats table count class runs seen₀ measured₀ left₀ r₀ at₀ j₀ seen measured left r at j = RoomPast table floats r at

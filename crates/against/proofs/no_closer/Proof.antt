@@ -1,8 +1,8 @@
--- `closest::no_closer` meets its contract. Assumes nothing.
+-- `against::no_closer` meets its contract. Assumes nothing.
 use lib.Ieee.{ofBits}
 use Rattle.extremes.specs.ClosestSweep.{noCloser}
-use Rattle.closest.proofs.no_closer.Statement.{statement}
-use Rattle.closest.proofs.no_closer.Tie as tie
+use Rattle.against.proofs.no_closer.Statement.{statement}
+use Rattle.against.proofs.no_closer.Tie as tie
 
 returns : tie.Need-returns
 unfolding noCloser ofBits

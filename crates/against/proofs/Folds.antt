@@ -20,7 +20,7 @@ use Rattle.measures.proofs.NotBelowZero.{Distant}
 use Rattle.items.proofs.NotBelowZero.{candidates-not-below}
 use Rattle.items.specs.Closest.{withItem, withEach, sweepOf}
 use Rattle.extremes.specs.ClosestSweep.{noCloser}
-use Rattle.closest.specs.Inner.{atZero, atNan, Lasts}
+use Rattle.against.specs.Inner.{atZero, atNan, Lasts}
 
 module _ {S X : Type 0} (skip : S → X → Bool) (step : S → X → S) where
   skipping-append : (s : S) (l m : List X) → skipping skip step (skipping skip step s l) m ≡ skipping skip step s (l ++ m)
