@@ -20,7 +20,6 @@ ghost use Rattle.parts.specs.Stored.{storedPoint, pointsFrom, storedRuns, Laid}
 ghost use Rattle.items.specs.Items.{point, itemsOf, boxOfItem};
 ghost use Rattle.items.specs.Inner.{itemOf, itemsBy, classItems};
 ghost use Rattle.extremes.specs.InnerBest.{bestOf, Sound, Keeps};
-ghost use Rattle.items.specs.declared.Class.the-variants.{Points};
 ghost use Rattle.items.specs.Closest.{withEach, sweepOf, closestOf};
 ghost use Rattle.extremes.specs.Found.{answerOf};
 ghost use Rattle.closest.specs.Inner.{isOnePoint};
@@ -108,9 +107,9 @@ fn from_class(
     seen
 }
 
-// All items of A, each with all items of B: the sweep is of the points first.
+// All items of A, each with all items of B: one class after the other; which one is set here.
 fn sweep_classes(
-    points: Sweep,
+    sweep: Sweep,
     floats1: &[f64],
     table1: &[u32],
     floats2: &[f64],
@@ -118,60 +117,29 @@ fn sweep_classes(
     boxes: &[f64],
     places: &[usize],
 ) -> Best
-    requires { ⌜ points .class ≡ Points ⌝ }
     requires { ⌜ Laid (now table1) (now floats1) ⌝ }
-    requires { ⌜ Indexed (points .size) (points .rows) (now table2) (now floats2) (now boxes) (now places) ⌝ }
-    ensures { λ r. ⌜ Keeps r (sweepOf (points .all) (itemsOf (storedRuns (now (table2 .entry)) (now (floats2 .entry)))) none (itemsOf (storedRuns (now (table1 .entry)) (now (floats1 .entry))))) ⌝ }
+    requires { ⌜ Indexed (sweep .size) (sweep .rows) (now table2) (now floats2) (now boxes) (now places) ⌝ }
+    ensures { λ r. ⌜ Keeps r (sweepOf (sweep .all) (itemsOf (storedRuns (now (table2 .entry)) (now (floats2 .entry)))) none (itemsOf (storedRuns (now (table1 .entry)) (now (floats1 .entry))))) ⌝ }
 {
-    let none = extremes::none_yet();
-    let stop = points.stop;
-    let all = points.all;
-    let rows = points.rows;
-    let size = points.size;
-    let segments = Sweep {
-        class: Class::Segments,
-        stop,
-        all,
-        rows,
-        size,
-    };
-    let triangles = Sweep {
-        class: Class::Triangles,
-        stop,
-        all,
-        rows,
-        size,
-    };
-    let best1 = from_class(
-        none,
-        points,
-        floats1,
-        table1,
-        floats2,
-        table2,
-        boxes,
-        places,
-    );
-    let best2 = from_class(
-        best1,
-        segments,
-        floats1,
-        table1,
-        floats2,
-        table2,
-        boxes,
-        places,
-    );
-    from_class(
-        best2,
-        triangles,
-        floats1,
-        table1,
-        floats2,
-        table2,
-        boxes,
-        places,
-    )
+    let stop = sweep.stop;
+    let all = sweep.all;
+    let rows = sweep.rows;
+    let size = sweep.size;
+    let mut seen = extremes::none_yet();
+    let mut k = 0;
+    while k < 3 {
+        let class = listing::class_of(k);
+        let turn = Sweep {
+            class,
+            stop,
+            all,
+            rows,
+            size,
+        };
+        seen = from_class(seen, turn, floats1, table1, floats2, table2, boxes, places);
+        k += 1;
+    }
+    seen
 }
 
 // The sweep where B has many items, as many as were listed: its index is of blocks.
@@ -192,14 +160,14 @@ fn sweep_many(
     let mut boxes = [0.0; 786];
     let mut places = [0usize; 524];
     let cut = blocks::cut(list.count, floats2, table2, &mut boxes, &mut places);
-    let points = Sweep {
+    let sweep = Sweep {
         class: Class::Points,
         stop,
         all,
         rows: cut.rows,
         size: cut.size,
     };
-    sweep_classes(points, floats1, table1, floats2, table2, &boxes, &places)
+    sweep_classes(sweep, floats1, table1, floats2, table2, &boxes, &places)
 }
 
 // All items of A, each with all items of B, whose index is of single items if they are few.
@@ -217,14 +185,14 @@ fn from_all(stop: bool, floats1: &[f64], table1: &[u32], floats2: &[f64], table2
         return extremes::none_yet();
     }
     if rows <= listing::LISTED {
-        let points = Sweep {
+        let sweep = Sweep {
             class: Class::Points,
             stop,
             all,
             rows,
             size: 1,
         };
-        return sweep_classes(points, floats1, table1, floats2, table2, &boxes, &places);
+        return sweep_classes(sweep, floats1, table1, floats2, table2, &boxes, &places);
     }
     sweep_many(stop, list, floats1, table1, floats2, table2)
 }

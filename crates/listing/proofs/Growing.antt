@@ -1,7 +1,7 @@
 -- A listing of no item, of one item more, and of some items of a whole. Assumes nothing.
 use mathlib.Core.Path.{_≡_, refl, sym, ap, _∙_}
 use mathlib.Core.Bool.{Bool, true, false, cond}
-use mathlib.Core.List.{List, [], _∷_, _++_, foldl-append, append-assoc, append-nil}
+use mathlib.Core.List.{List, [], _∷_, _++_, foldl-append}
 use mathlib.Core.Option.{none, some}
 use Prim.Native.Nat.{ℕ, _+_, _*_, _<_, _≤_}
 use native.Mathlib.Numerals.{add-one}
@@ -13,16 +13,13 @@ use lib.ListN.{length, drop, length-append}
 use lib.Seq.{sets}
 use lib.Ieee.{Float}
 use Rattle.workspace.specs.Workspace.{numbersPerRun}
-use Rattle.coords.specs.Parts.{Run}
-use Rattle.primitives.specs.declared.Point.{Point}
 use Rattle.primitives.specs.declared.Aabb.{Aabb}
 use Rattle.primitives.specs.Boxes.{unionOf}
 use Rattle.parts.specs.Stored.{pointsFrom, runsFrom, runCount, kindAt, countAt}
 use Rattle.parts.proofs.Turns.{runs-next}
-use Rattle.items.specs.Items.{Item, itemsOfKind, itemsOf, boxOfItem, uniteItem, boxOfItems}
+use Rattle.items.specs.Items.{Item, itemsOfKind, boxOfItem, uniteItem, boxOfItems}
 use Rattle.items.specs.Inner.{isOfClass, itemsBy, classItems, itemCount, itemAt}
 use Rattle.items.specs.declared.Class.{Class}
-use Rattle.items.specs.declared.Class.the-variants.{Points, Segments, Triangles}
 use Rattle.items.proofs.Added.{AddedBut}
 use Rattle.items.proofs.Turns.{itemsLeft, turn-item}
 use Rattle.listing.specs.declared.Listing.{Listing}
@@ -89,11 +86,3 @@ pub run-next : (class : Class) (floats : List Float) (table : List ℕ) (at r n 
     → classItems class (runsFrom floats at (drop (numbersPerRun * r) table)) ≡ cond (isOfClass class k) (itemsBy class (pointsFrom floats at n)) [] ++ classItems class (runsFrom floats (at + n) (drop (numbersPerRun * (r + 1)) table))
 unfolding itemsOfKind
 run-next class floats table at r n k h n-is k-is = rw (runs-next table r h floats at, n-is, k-is)
-
--- the items of the classes, one class after the other, are all items
-pub lists-classes : (rs : List (Run Point)) {floats : List Float} {list₀ list₁ list₂ list₃ : Listing} {boxes₀ boxes₁ boxes₂ boxes₃ : List Float} {places₀ places₁ places₂ places₃ : List ℕ}
-    → Lists list₀ [] floats boxes₀ places₀ → ListsMore (classItems Points rs) floats list₀ boxes₀ places₀ list₁ boxes₁ places₁
-    → ListsMore (classItems Segments rs) floats list₁ boxes₁ places₁ list₂ boxes₂ places₂ → ListsMore (classItems Triangles rs) floats list₂ boxes₂ places₂ list₃ boxes₃ places₃
-    → Lists list₃ (itemsOf rs) floats boxes₃ places₃
-unfolding itemsOf
-lists-classes rs start points segments triangles = rw (← append-assoc) (triangles (classItems Points rs ++ classItems Segments rs) (segments (classItems Points rs) (points [] start)))

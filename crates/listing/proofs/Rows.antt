@@ -1,18 +1,22 @@
--- Boxes and places in a row: what was stored is read, and what stands before it stays; the class of a code. Assumes nothing.
+-- Boxes and places in a row: what was stored is read, and what stands before it stays; the class of a code, and the items of the first classes. Assumes nothing.
 use mathlib.Core.Path.{_≡_, refl, _∙_}
-use mathlib.Core.List.{List, [], _∷_}
+use mathlib.Core.List.{List, [], _∷_, _++_, append-assoc}
 use Prim.Native.Nat.{ℕ, suc, _+_, _*_, _<_, _≤_}
+use native.Mathlib.Numerals.{add-one}
 use native.Mathlib.Omega.{arith}
 use lib.ListN.{length, getD, set}
 use lib.Seq.{sets, getD-set-other}
 use lib.Ieee.{Float, nan}
 use Rattle.fields.proofs.Stores.{getD-sets}
+use Rattle.coords.specs.Parts.{Run}
+use Rattle.primitives.specs.declared.Point.{Point}
 use Rattle.primitives.specs.declared.Aabb.{Aabb}
-use Rattle.items.specs.Inner.{itemCount}
+use Rattle.items.specs.Items.{itemsOf}
+use Rattle.items.specs.Inner.{classItems, itemCount}
 use Rattle.items.specs.declared.Class.{Class}
 use Rattle.items.specs.declared.Class.the-variants.{Points, Segments, Triangles}
 use Rattle.listing.specs.declared.Place.{Place}
-use Rattle.listing.specs.Rows.{floatsPerBox, boxFloats, boxAt, numbersPerPlace, codeOf, classOfCode, placeNumbers, placeAt}
+use Rattle.listing.specs.Rows.{floatsPerBox, boxFloats, boxAt, numbersPerPlace, codeOf, classOfCode, firstClasses, placeNumbers, placeAt}
 use Rattle.listing.specs.Listing.{pointCountOf}
 
 -- what stands before a row of stores stays
@@ -73,3 +77,14 @@ pub points-within : (class : Class) (j n : ℕ) → j < itemCount class n → j 
 points-within Points j n h = omega arith
 points-within Segments j n h = omega arith
 points-within Triangles j n h = omega arith
+
+-- ---- the items of the first classes
+module _ (rs : List (Run Point)) where
+  pub classes-next : (k : ℕ) → firstClasses (k + 1) rs ≡ firstClasses k rs ++ classItems (classOfCode k) rs
+  unfolding firstClasses
+  classes-next k = rw add-one
+
+  -- the first three classes are all
+  pub classes-all : (k : ℕ) → k ≡ 3 → firstClasses k rs ≡ itemsOf rs
+  unfolding firstClasses itemsOf
+  classes-all k e = rw e (append-assoc (classItems Points rs) (classItems Segments rs) (classItems Triangles rs))

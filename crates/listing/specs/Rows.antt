@@ -1,11 +1,15 @@
 -- Boxes and places of items in rows of numbers. Serves inner contracts. Definitions only.
-use Prim.Native.Nat.{ℕ, _+_, _*_}
+use Prim.Native.Nat.{ℕ, zero, suc, _+_, _*_}
 use mathlib.Core.Bool.{cond}
-use mathlib.Core.List.{List, [], _∷_}
+use mathlib.Core.List.{List, [], _∷_, _++_}
 use lib.Dec.{eqb}
 use lib.ListN.{getD}
 use lib.Ieee.{Float, nan}
+use Rattle.coords.specs.Parts.{Run}
+use Rattle.primitives.specs.declared.Point.{Point}
 use Rattle.primitives.specs.declared.Aabb.{Aabb}
+use Rattle.items.specs.Items.{Item}
+use Rattle.items.specs.Inner.{classItems}
 use Rattle.items.specs.declared.Class.{Class}
 use Rattle.items.specs.declared.Class.the-variants.{Points, Segments, Triangles}
 use Rattle.listing.specs.declared.Place.{Place}
@@ -44,6 +48,11 @@ codeOf Triangles = 2
 
 abbrev pub classOfCode : ℕ → Class
 classOfCode code = cond (eqb code 0) Points (cond (eqb code 1) Segments Triangles)
+
+-- the items of the first k classes
+unfoldable pub firstClasses : ℕ → List (Run Point) → List Item
+firstClasses zero rs = []
+firstClasses (suc k) rs = firstClasses k rs ++ classItems (classOfCode k) rs
 
 -- the numbers of a place
 abbrev pub placeNumbers : Place → List ℕ

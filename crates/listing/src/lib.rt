@@ -79,7 +79,7 @@ fn code_of(class: Class) -> usize
 }
 
 // The class that a number stands for.
-fn class_of(code: usize) -> Class
+pub fn class_of(code: usize) -> Class
     ensures { λ class. ⌜ class ≡ classOfCode code ⌝ }
 {
     if code == 0 {
@@ -287,11 +287,14 @@ pub fn list_all(floats: &[f64], table: &[u32], boxes: &mut [f64], places: &mut [
         y: 0.0,
         z: 0.0,
     };
-    let empty = Listing {
+    let mut seen = Listing {
         count: 0,
         all: Aabb::point(origin),
     };
-    let points = list_class(empty, Class::Points, floats, table, boxes, places);
-    let segments = list_class(points, Class::Segments, floats, table, boxes, places);
-    list_class(segments, Class::Triangles, floats, table, boxes, places)
+    let mut k = 0;
+    while k < 3 {
+        seen = list_class(seen, class_of(k), floats, table, boxes, places);
+        k += 1;
+    }
+    seen
 }

@@ -28,7 +28,7 @@ slice-aggregate-sweep-classes-2 : tie.Need-slice-aggregate-sweep-classes-2
 slice-aggregate-sweep-classes-2 c = search needs
 
 sweep-classes-requires : tie.Need-sweep-classes-requires
-sweep-classes-requires c κs = (refl, (c .before .before .before .before .before .before .before .before .before .before .before .before .before .before .pre .0, lists-indexed _ _ _ _ _ (c .before .before .before .before .before .before .before .list-all .ensures) _ refl (omega arith) (search needs) (search needs)))
+sweep-classes-requires c κs = (c .before .before .before .before .before .before .before .before .before .before .before .before .before .before .pre .0, lists-indexed _ _ _ _ _ (c .before .before .before .before .before .before .before .list-all .ensures) _ refl (omega arith) (search needs) (search needs))
 
 returns-2 : tie.Need-returns-2
 returns-2 c = rw (listed-some _ _ _ _ _ (c .before .before .before .before .before .before .before .before .list-all .ensures) _ (omega arith)) (c .sweep-classes .ensures)

@@ -1,38 +1,64 @@
--- `closest::sweep_classes` meets its contract. Assumes nothing.
-use mathlib.Core.Path.{_∙_}
-use Rattle.items.specs.Items.{itemsOf}
-use Rattle.against.proofs.Folds.{sweep-append}
+-- `closest::sweep_classes` meets its contract. The invariant: the best so far is that of the items of A's first k classes. Assumes nothing.
+use mathlib.Core.Option.{none}
+use Prim.Native.Nat.{_-_, _≤_}
+use native.Mathlib.Omega.{arith}
 use borrow.Author.Needs.{needs}
+use Rattle.parts.specs.Stored.{storedRuns}
+use Rattle.extremes.specs.Sweeps.{skipping}
+use Rattle.extremes.specs.InnerBest.{Keeps}
+use Rattle.items.specs.Items.{itemsOf}
+use Rattle.items.specs.Closest.{sweepOf}
+use Rattle.listing.specs.Rows.{firstClasses}
+use Rattle.listing.proofs.Rows.{classes-next, classes-all}
+use Rattle.against.proofs.Folds.{sweep-append}
 use Rattle.closest.proofs.sweep_classes.Statement.{statement}
 use Rattle.closest.proofs.sweep_classes.Tie as tie
 
-none-yet-requires : tie.Need-none-yet-requires
+abbrev Inv-loop : tie.InvT-loop
+Inv-loop floats1 table1 floats2 table2 boxes places stop all rows size seen₀ k₀ seen k = (k ≤ 3) × Keeps seen (sweepOf all (itemsOf (storedRuns table2 floats2)) none (firstClasses k (storedRuns table1 floats1)))
+
+abbrev μ-loop : tie.MeasureT-loop
+μ-loop floats1 table1 floats2 table2 boxes places stop all rows size seen₀ k₀ seen k = 3 - k
+
+none-yet-requires : tie.Need-none-yet-requires Inv-loop μ-loop
 none-yet-requires c κs = search needs
 
-from-class-requires : tie.Need-from-class-requires
-from-class-requires c κs = search needs
+loop-holds : tie.Need-loop-holds Inv-loop μ-loop
+unfolding sweepOf skipping firstClasses
+loop-holds c = (omega arith, c .none-yet .ensures)
 
-from-class-requires-2 : tie.Need-from-class-requires-2
-from-class-requires-2 c κs = search needs
+class-of-requires : tie.Need-class-of-requires Inv-loop μ-loop
+class-of-requires c κs = search needs
 
-from-class-requires-3 : tie.Need-from-class-requires-3
-from-class-requires-3 c κs = (c .from-class2 .ensures .sound, (c .before .before .before .before .before .before .before .before .before .before .pre .1 .0, c .before .before .before .before .before .before .before .before .before .before .pre .1 .1))
+from-class-requires : tie.Need-from-class-requires Inv-loop μ-loop
+from-class-requires c κs = (c .before .before .loop .inv .1 .sound, c .before .before .before .before .before .before .before .before .before .before .before .pre)
 
-returns : tie.Need-returns
-unfolding itemsOf
-returns c =
-    let points = rw (c .before .before .before .before .before .before .before .before .before .before .before .pre .0, c .before .before .before .before .none-yet .ensures .same) at (c .before .before .from-class .ensures) in
-    record {
-      same = rw (c .from-class3 .ensures .same, c .before .from-class2 .ensures .same, points .same) (sweep-append _ _ _ _ _ ∙ sweep-append _ _ _ _ _);
-      sound = c .from-class3 .ensures .sound;
-    }
+add-k : tie.Need-add-k Inv-loop μ-loop
+add-k c = omega arith
+
+loop-less : tie.Need-loop-less Inv-loop μ-loop
+loop-less c = omega arith
+
+loop-again : tie.Need-loop-again Inv-loop μ-loop
+loop-again c = let args = c .before .before .before .before .before .before .before .before .before .before .before .before .args in
+    let loop = c .before .before .before .loop in
+    (omega arith, record { same = rw (classes-next (storedRuns (args .table1 .now) (args .floats1 .now)) (loop .k), ← sweep-append, ← c .before .class-of .ensures, ← loop .inv .1 .same) (c .from-class .ensures .same); sound = c .from-class .ensures .sound })
+
+returns : tie.Need-returns Inv-loop μ-loop
+returns c = let args = c .before .before .before .before .before .before .before .before .before .before .args in
+    rw (← classes-all (storedRuns (args .table1 .now) (args .floats1 .now)) (c .before .loop .k) (omega arith)) (c .before .loop .inv .1)
 
 pub sweep-classes-spec : {M : Type 1} → statement M
 sweep-classes-spec =
     tie.close
     (tie.spec
+    Inv-loop
+    μ-loop
     none-yet-requires
+    loop-holds
+    class-of-requires
     from-class-requires
-    from-class-requires-2
-    from-class-requires-3
+    add-k
+    loop-less
+    loop-again
     returns)

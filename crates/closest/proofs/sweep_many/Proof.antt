@@ -1,5 +1,4 @@
 -- `closest::sweep_many` meets its contract. Assumes nothing.
-use mathlib.Core.Path.{refl}
 use native.Mathlib.Omega.{arith}
 use Rattle.closest.proofs.Indexed.{cut-indexed}
 use borrow.Author.Needs.{needs}
@@ -22,7 +21,7 @@ slice-aggregate-sweep-classes-2 : tie.Need-slice-aggregate-sweep-classes-2
 slice-aggregate-sweep-classes-2 c = search needs
 
 sweep-classes-requires : tie.Need-sweep-classes-requires
-sweep-classes-requires c κs = (refl, (c .before .before .before .before .before .before .before .before .before .before .before .before .pre .0, cut-indexed _ _ _ _ _ _ (c .before .before .before .before .cut .ensures .0) (c .before .before .before .before .cut .ensures .1)))
+sweep-classes-requires c κs = (c .before .before .before .before .before .before .before .before .before .before .before .before .pre .0, cut-indexed _ _ _ _ _ _ (c .before .before .before .before .cut .ensures .0) (c .before .before .before .before .cut .ensures .1))
 
 returns : tie.Need-returns
 returns c = search needs
