@@ -1,67 +1,28 @@
--- The steps that the operations share: for inner contracts only. Definitions only.
+-- An operation's answer by the pair that it swept for: for inner contracts only. Definitions only.
 use Prim.Native.Nat.{ℕ, _≤_}
 use mathlib.Core.Path.{_≡_}
 use mathlib.Core.Bool.{Bool, false}
-use mathlib.Core.List.{List, [], _∷_, _++_}
+use mathlib.Core.List.{List}
 use mathlib.Core.Option.{Option, none, some}
-use lib.Dec.{ltb}
-use lib.Ieee.{Float, lt}
-use Rattle.ieee754.specs.MinMax.{positiveZero}
-use Rattle.refusals.specs.Checks.{Check, check, firstOf}
+use lib.Ieee.{Float}
 use Rattle.refusals.specs.declared.Refusal.{Refusal}
 use Rattle.gpb.specs.Header.{sridOf}
 use Rattle.primitives.specs.declared.Witness.{Witness}
 use Rattle.extremes.specs.Found.{answerOf}
 use Rattle.extremes.specs.declared.ExtremePair.{ExtremePair}
 use Rattle.extremes.specs.declared.ExtremePair.the-variants as extreme-pair
-use Rattle.workspace.specs.Workspace.{numbersNeeded}
-use Rattle.blob.specs.Blob.{runsOfBlob}
-use Rattle.operands.specs.Operands.{Workspaces, lentChecks, filled}
+use Rattle.operands.specs.Operands.{Workspaces, filled}
 use Rattle.outcomes.specs.Answers.{Value, decided, Report, answering, refusing}
-use Rattle.outcomes.specs.Operations.{noSide, toleranceChecks, blobValue}
+use Rattle.outcomes.specs.Operations.{blobValue}
 use Rattle.outcomes.specs.declared.Answer.{Answer}
 use Rattle.outcomes.specs.declared.Answer.the-variants as answer-case
-use Rattle.outcomes.specs.declared.Asked.{Asked}
-use Rattle.outcomes.specs.declared.Asked.the-variants as asked
-use Rattle.outcomes.specs.declared.BothRead.{BothRead}
-use Rattle.outcomes.specs.declared.BothRead.the-variants as both-read
 use Rattle.outcomes.specs.declared.Swept.{Swept}
 use Rattle.outcomes.specs.declared.Swept.the-variants as swept
 
--- the checks of an operation, by those of its operands: 1 before them, 16 after them
-unfoldable pub askedChecks : Asked → List (Check Refusal) → List (Check Refusal)
-askedChecks asked.Distance operands = operands
-askedChecks (asked.Within d) operands = toleranceChecks d ++ operands
-askedChecks (asked.Bytes lent needed) operands = operands ++ (check (noSide 16) (ltb lent needed) ∷ [])
-
--- 1 and 16 by themselves
-unfoldable pub belowZero : Asked → Bool
-belowZero asked.Distance = false
-belowZero (asked.Within d) = lt d positiveZero
-belowZero (asked.Bytes lent needed) = false
-
-unfoldable pub tooShort : Asked → Bool
-tooShort asked.Distance = false
-tooShort (asked.Within d) = false
-tooShort (asked.Bytes lent needed) = ltb lent needed
-
--- the first of them that holds, of the memory lent
-abbrev pub firstAsked : Asked → List ℕ → List ℕ → Workspaces → Option Refusal
-firstAsked q a b w = firstOf (askedChecks q (lentChecks a b w))
-
--- refused: unchanged; else both blobs are read into it
+-- the memory lent: refused, unchanged; else both blobs are read into it
 unfoldable pub memoryBy : Option Refusal → List ℕ → List ℕ → Workspaces → Workspaces
 memoryBy (some r) a b w = w
 memoryBy none a b w = filled a b w
-
--- refused, or how many numbers of each table are written, and side 1's SRID
-unfoldable pub storedBy : Option Refusal → List ℕ → List ℕ → BothRead
-storedBy (some r) a b = both-read.Refused r
-storedBy none a b = both-read.Stored (numbersNeeded (runsOfBlob a)) (numbersNeeded (runsOfBlob b)) (sridOf a)
-
-pub record ReadBoth (first : Option Refusal) (a b : List ℕ) (w w′ : Workspaces) (r : BothRead) : Type 0 where
-  pub answer : r ≡ storedBy first a b
-  pub memory : w′ ≡ memoryBy first a b w
 
 -- what a sweep found, with an SRID
 unfoldable pub sweptOf : ExtremePair → ℕ → Swept

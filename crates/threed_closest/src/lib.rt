@@ -5,19 +5,20 @@
 use gpb::LINE_BYTES;
 use gpb::POINT_BYTES;
 use outcomes::Answer;
-use outcomes::Asked;
-use outcomes::BothRead;
 use outcomes::Decision;
 use outcomes::Swept;
 use outcomes::Written;
+use reading::Asked;
+use reading::BothRead;
 ghost use mathlib.Core.Path.{_≡_};
 ghost use mathlib.Core.List.{[]};
 ghost use Rattle.outcomes.specs.Lent.{lent, left};
 ghost use Rattle.outcomes.specs.Answers.{nothing, blob, answering, answerReport, decisionReport, writtenReport};
 ghost use Rattle.outcomes.specs.Operations.{outcome, closestPair, distance, within, intersects};
 ghost use Rattle.outcomes.specs.Operations.{closestPoint, shortestLine};
-ghost use Rattle.outcomes.specs.Inner.{firstAsked, PairSwept};
+ghost use Rattle.outcomes.specs.Inner.{PairSwept};
 ghost use Rattle.outcomes.specs.ThirdProperty.{ShortestOfPoints};
+ghost use Rattle.reading.specs.Inner.{firstAsked};
 
 // The closest pair of the items of two blobs, once they are read into lent memory. Nothing is less than 0, so the
 // sweep may stop there.
@@ -35,7 +36,7 @@ fn closest_pair(
         (closestPair (now (a .entry)) (now (b .entry))) (now (a .entry)) (now (b .entry))
         (lent floats1 table1 floats2 table2) (left floats1 table1 floats2 table2) r ⌝ }
 {
-    match outcomes::read_both(a, b, asked, floats1, table1, floats2, table2) {
+    match reading::read_both(a, b, asked, floats1, table1, floats2, table2) {
         BothRead::Refused(refusal) => Swept::Refused(refusal),
         BothRead::Stored {
             numbers1,

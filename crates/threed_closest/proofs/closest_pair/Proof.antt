@@ -1,7 +1,7 @@
 -- `threed_closest::closest_pair` meets its contract. Assumes nothing.
 use mathlib.Core.Path.{_∙_}
 use Rattle.outcomes.specs.Operations.{closestPair}
-use Rattle.outcomes.proofs.Steps.{swept-refused, sides, swept-found}
+use Rattle.reading.proofs.Steps.{swept-refused, sides, swept-found}
 use borrow.Author.Needs.{needs}
 use Rattle.threed_closest.proofs.closest_pair.Statement.{statement}
 use Rattle.threed_closest.proofs.closest_pair.Tie as tie

@@ -1,8 +1,9 @@
 -- `threed_closest::st_3d_closest_point` meets its contract. Assumes nothing.
 use mathlib.Core.Path.{refl}
 use Rattle.outcomes.specs.Operations.{outputChecks, pointAfter, closestPoint}
-use Rattle.outcomes.specs.Inner.{askedChecks}
-use Rattle.outcomes.proofs.Steps.{written, room}
+use Rattle.reading.specs.Inner.{askedChecks}
+use Rattle.outcomes.proofs.Answered.{written}
+use Rattle.reading.proofs.Steps.{room}
 use borrow.Author.Needs.{needs}
 use Rattle.threed_closest.proofs.st_3d_closest_point.Statement.{statement}
 use Rattle.threed_closest.proofs.st_3d_closest_point.Tie as tie

@@ -1,8 +1,9 @@
 -- `threed_closest::st_3d_intersects` meets its contract. Assumes nothing.
 use mathlib.Core.Path.{ap, _∙_}
 use Rattle.outcomes.specs.Operations.{touchingValue, intersects}
-use Rattle.outcomes.specs.Inner.{askedChecks, decidedReport}
-use Rattle.outcomes.proofs.Steps.{told, swept-touching}
+use Rattle.outcomes.specs.Inner.{decidedReport}
+use Rattle.reading.specs.Inner.{askedChecks}
+use Rattle.outcomes.proofs.Answered.{told, swept-touching}
 use borrow.Author.Needs.{needs}
 use Rattle.threed_closest.proofs.st_3d_intersects.Statement.{statement}
 use Rattle.threed_closest.proofs.st_3d_intersects.Tie as tie

@@ -1,7 +1,7 @@
 -- `threed_farthest::farthest_pair` meets its contract. Assumes nothing.
 use mathlib.Core.Path.{_∙_}
 use Rattle.outcomes.specs.Operations.{farthestPair}
-use Rattle.outcomes.proofs.Steps.{swept-refused, sides, swept-found}
+use Rattle.reading.proofs.Steps.{swept-refused, sides, swept-found}
 use borrow.Author.Needs.{needs}
 use Rattle.threed_farthest.proofs.farthest_pair.Statement.{statement}
 use Rattle.threed_farthest.proofs.farthest_pair.Tie as tie

@@ -1,8 +1,9 @@
 -- `threed_farthest::st_3d_dfully_within` meets its contract. Assumes nothing.
 use mathlib.Core.Path.{ap, _∙_}
 use Rattle.outcomes.specs.Operations.{withinValue, fullyWithin}
-use Rattle.outcomes.specs.Inner.{askedChecks, decidedReport}
-use Rattle.outcomes.proofs.Steps.{told, swept-within}
+use Rattle.outcomes.specs.Inner.{decidedReport}
+use Rattle.reading.specs.Inner.{askedChecks}
+use Rattle.outcomes.proofs.Answered.{told, swept-within}
 use borrow.Author.Needs.{needs}
 use Rattle.threed_farthest.proofs.st_3d_dfully_within.Statement.{statement}
 use Rattle.threed_farthest.proofs.st_3d_dfully_within.Tie as tie

@@ -2,8 +2,9 @@
 use mathlib.Core.Path.{refl}
 use Rattle.operands.specs.Operands.{workspaces}
 use Rattle.outcomes.specs.Operations.{outputChecks, lineAfter, lineChecks, longestLine}
-use Rattle.outcomes.specs.Inner.{askedChecks}
-use Rattle.outcomes.proofs.Steps.{written, room}
+use Rattle.reading.specs.Inner.{askedChecks}
+use Rattle.outcomes.proofs.Answered.{written}
+use Rattle.reading.proofs.Steps.{room}
 use Rattle.threed_farthest.proofs.LongestLine.{longest-of-outcome}
 use borrow.Author.Needs.{needs}
 use Rattle.threed_farthest.proofs.st_3d_longest_line.Statement.{statement}

@@ -2,8 +2,8 @@
 use mathlib.Core.Path.{ap, _∙_}
 use Rattle.outcomes.specs.Answers.{answerReport}
 use Rattle.outcomes.specs.Operations.{distanceValue, maxDistance}
-use Rattle.outcomes.specs.Inner.{askedChecks}
-use Rattle.outcomes.proofs.Steps.{told, swept-measured}
+use Rattle.reading.specs.Inner.{askedChecks}
+use Rattle.outcomes.proofs.Answered.{told, swept-measured}
 use borrow.Author.Needs.{needs}
 use Rattle.threed_farthest.proofs.st_3d_max_distance.Statement.{statement}
 use Rattle.threed_farthest.proofs.st_3d_max_distance.Tie as tie

@@ -1,5 +1,5 @@
--- The steps that the operations share: the order of the checks, what a sweep is handed, and the outcome that its answer makes, whichever pair it is. Assumes nothing.
-use mathlib.Core.Path.{_≡_, refl, sym, ap, _∙_}
+-- Both blobs read: the order of the checks, what is handed to a sweep, and what its pair makes, whichever pair it is. Assumes nothing.
+use mathlib.Core.Path.{_≡_, refl, sym, _∙_}
 use mathlib.Core.Bool.{Bool, true, false, cond}
 use mathlib.Core.List.{List, [], _∷_}
 use mathlib.Core.Option.{Option, none, some, orElse}
@@ -7,7 +7,7 @@ use Prim.Native.Nat.{ℕ, _*_, _≤_}
 use native.Mathlib.Omega.{arith}
 use lib.Dec.{ltb}
 use lib.ListN.{length}
-use lib.Ieee.{Float, lt, le, eq}
+use lib.Ieee.{lt}
 use borrow.Author.Tests.{ltb-false}
 use Rattle.ieee754.specs.MinMax.{positiveZero}
 use Rattle.refusals.specs.Checks.{Check, check, firstOf}
@@ -25,16 +25,16 @@ use Rattle.operands.specs.declared.Operands.{Operands}
 use Rattle.operands.specs.declared.Checked.{Checked}
 use Rattle.operands.specs.declared.Checked.the-variants as checked
 use Rattle.operands.proofs.Meaning.{refused-is-first, AreAccepted, are-accepted}
-use Rattle.outcomes.specs.Answers.{Value, Report, answering, answerReport}
-use Rattle.outcomes.specs.Operations.{outcome, noSide, toleranceChecks, unless, distanceValue, withinValue, touchingValue, blobValue}
-use Rattle.outcomes.specs.Inner.{askedChecks, belowZero, tooShort, memoryBy, storedBy, ReadBoth, sweptOf, sweptBy, PairSwept, sweptAnswer, decidedReport, sweptReport, sweptOutput, SweptWritten, HasRoom}
-use Rattle.outcomes.specs.declared.Asked.{Asked}
-use Rattle.outcomes.specs.declared.Asked.the-variants as asked
-use Rattle.outcomes.specs.declared.BothRead.{BothRead}
-use Rattle.outcomes.specs.declared.BothRead.the-variants as both-read
+use Rattle.outcomes.specs.Operations.{noSide, toleranceChecks}
+use Rattle.outcomes.specs.Inner.{memoryBy, sweptOf, sweptBy, PairSwept, HasRoom}
 use Rattle.outcomes.specs.declared.Swept.{Swept}
 use Rattle.outcomes.specs.declared.Swept.the-variants as swept
 use Rattle.outcomes.proofs.Handed.{Side, side}
+use Rattle.reading.specs.Inner.{askedChecks, belowZero, tooShort, storedBy, ReadBoth}
+use Rattle.reading.specs.declared.Asked.{Asked}
+use Rattle.reading.specs.declared.Asked.the-variants as asked
+use Rattle.reading.specs.declared.BothRead.{BothRead}
+use Rattle.reading.specs.declared.BothRead.the-variants as both-read
 
 -- ---- the checks
 
@@ -124,51 +124,6 @@ module _ {first : Option Refusal} {a b : List ℕ} {w w′ : Workspaces} {r : Bo
         go : (x : Option Refusal) → r ≡ storedBy x a b → s ≡ sweptBy x p (sridOf a)
         go (some t) h = let z : _≡_ {A = ℕ} 0 1 = cc in absurd (omega arith)
         go none h = let own : srid ≡ sridOf a = cc in g ∙ rw (f, own)
-
--- ---- the answer
-
--- the pair's distance, and what is decided of it, as the operations' values have it
-pub swept-measured : (r : Swept) → answerReport (sweptAnswer r) ≡ sweptReport distanceValue r
-unfolding answerReport sweptAnswer sweptReport distanceValue
-swept-measured (swept.Refused t) = refl
-swept-measured swept.Nothing = refl
-swept-measured (swept.Found x srid) = refl
-
-pub swept-within : (d : Float) (r : Swept) → decidedReport (λ m. le m d) (sweptAnswer r) ≡ sweptReport (withinValue d) r
-unfolding decidedReport sweptAnswer sweptReport withinValue
-swept-within d (swept.Refused t) = refl
-swept-within d swept.Nothing = refl
-swept-within d (swept.Found x srid) = refl
-
-pub swept-touching : (r : Swept) → decidedReport (λ m. eq m positiveZero) (sweptAnswer r) ≡ sweptReport touchingValue r
-unfolding decidedReport sweptAnswer sweptReport touchingValue
-swept-touching (swept.Refused t) = refl
-swept-touching swept.Nothing = refl
-swept-touching (swept.Found x srid) = refl
-
--- with no output nothing is written
-unwritten : (r : Swept) → [] ≡ sweptOutput (λ srid p l. l) r []
-unfolding sweptOutput
-unwritten (swept.Refused t) = refl
-unwritten swept.Nothing = refl
-unwritten (swept.Found x srid) = refl
-
-module _ {first : Option Refusal} {p : Option Witness} {a b : List ℕ} {w w′ : Workspaces} {r : Swept} (pair : PairSwept first p a b w w′ r) where
-  -- the outcome, by what is reported and written of the pair
-  made : (value : Option Witness → Value) (after : ℕ → Option Witness → List ℕ → List ℕ) → ((srid : ℕ) (l : List ℕ) → after srid none l ≡ l) → (lent : List ℕ) → outcome (sweptReport value r) w′ (sweptOutput after r lent) ≡ unless first (outcome (answering (value p)) (filled a b w) (after (sridOf a) p lent)) w lent
-  unfolding unless memoryBy sweptBy sweptOf answerOf sweptReport sweptOutput
-  made value after kept lent = rw (pair .answer, pair .memory) (go first p)
-    where
-      go : (x : Option Refusal) (p : Option Witness) → outcome (sweptReport value (sweptBy x p (sridOf a))) (memoryBy x a b w) (sweptOutput after (sweptBy x p (sridOf a)) lent) ≡ unless x (outcome (answering (value p)) (filled a b w) (after (sridOf a) p lent)) w lent
-      go (some t) p = refl
-      go none none = rw (kept (sridOf a) lent)
-      go none (some x) = refl
-
-  pub told : (value : Option Witness → Value) {report : Report} → report ≡ sweptReport value r → outcome report w′ [] ≡ unless first (outcome (answering (value p)) (filled a b w) []) w []
-  told value e = rw e (ap (outcome (sweptReport value r) w′) (unwritten r) ∙ made value (λ srid p l. l) (λ srid l. refl) [])
-
-  pub written : (after : ℕ → Option Witness → List ℕ → List ℕ) → ((srid : ℕ) (l : List ℕ) → after srid none l ≡ l) → {lent output : List ℕ} {report : Report} → SweptWritten after r lent output report → outcome report w′ output ≡ unless first (outcome (answering (blobValue p)) (filled a b w) (after (sridOf a) p lent)) w lent
-  written after kept {lent} e = rw (e .told, e .left) (made blobValue after kept lent)
 
 -- an output that is not refused has room for the pair
 pub room : (lent needed : ℕ) (cs : List (Check Refusal)) (p : Option Witness) (srid : ℕ) (r : Swept) → r ≡ sweptBy (firstOf (askedChecks (asked.Bytes lent needed) cs)) p srid → HasRoom needed lent r

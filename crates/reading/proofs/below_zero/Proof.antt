@@ -1,9 +1,9 @@
--- `outcomes::below_zero` meets its contract. Assumes nothing.
+-- `reading::below_zero` meets its contract. Assumes nothing.
 use lib.Ieee.{ofBits}
-use Rattle.outcomes.specs.Inner.{belowZero}
+use Rattle.reading.specs.Inner.{belowZero}
 use borrow.Author.Needs.{needs}
-use Rattle.outcomes.proofs.below_zero.Statement.{statement}
-use Rattle.outcomes.proofs.below_zero.Tie as tie
+use Rattle.reading.proofs.below_zero.Statement.{statement}
+use Rattle.reading.proofs.below_zero.Tie as tie
 
 returns : tie.Need-returns
 unfolding belowZero

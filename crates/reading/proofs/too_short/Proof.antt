@@ -1,8 +1,8 @@
--- `outcomes::too_short` meets its contract. Assumes nothing.
-use Rattle.outcomes.specs.Inner.{tooShort}
+-- `reading::too_short` meets its contract. Assumes nothing.
+use Rattle.reading.specs.Inner.{tooShort}
 use borrow.Author.Needs.{needs}
-use Rattle.outcomes.proofs.too_short.Statement.{statement}
-use Rattle.outcomes.proofs.too_short.Tie as tie
+use Rattle.reading.proofs.too_short.Statement.{statement}
+use Rattle.reading.proofs.too_short.Tie as tie
 
 returns : tie.Need-returns
 unfolding tooShort

@@ -1,11 +1,11 @@
--- `outcomes::read_both` meets its contract. Assumes nothing.
+-- `reading::read_both` meets its contract. Assumes nothing.
 use mathlib.Core.Path.{sym, _∙_}
 use native.Mathlib.Omega.{arith}
 use Rattle.operands.specs.Operands.{workspaces, lentChecks}
-use Rattle.outcomes.proofs.Steps.{first-below, first-operands, first-short, first-none, refused-first, taken, read-refused, read-stored}
+use Rattle.reading.proofs.Steps.{first-below, first-operands, first-short, first-none, refused-first, taken, read-refused, read-stored}
 use borrow.Author.Needs.{needs}
-use Rattle.outcomes.proofs.read_both.Statement.{statement}
-use Rattle.outcomes.proofs.read_both.Tie as tie
+use Rattle.reading.proofs.read_both.Statement.{statement}
+use Rattle.reading.proofs.read_both.Tie as tie
 
 returns : tie.Need-returns
 returns c =
