@@ -1,25 +1,24 @@
 -- `measures::inner_side` meets its contract. Assumes nothing.
 use lib.Ieee.{ofBits}
-use borrow.Author.Needs.{needs}
 use Rattle.measures.specs.Measures.{innerSide}
 use Rattle.measures.proofs.inner_side.Statement.{statement}
 use Rattle.measures.proofs.inner_side.Tie as tie
 
 difference-requires : tie.Need-difference-requires
-difference-requires c κs = search needs
+difference-requires c κs = tt
 
 difference-requires-2 : tie.Need-difference-requires-2
-difference-requires-2 c κs = search needs
+difference-requires-2 c κs = tt
 
 cross-requires : tie.Need-cross-requires
-cross-requires c κs = search needs
+cross-requires c κs = tt
 
 dot-requires : tie.Need-dot-requires
-dot-requires c κs = search needs
+dot-requires c κs = tt
 
 returns : tie.Need-returns
 unfolding innerSide ofBits
-returns c = cc
+returns c = rw (c .dot .ensures, c .before .cross .ensures, c .before .before .difference2 .ensures, c .before .before .before .difference .ensures)
 
 pub inner-side-spec : {M : Type 1} → statement M
 inner-side-spec =

@@ -1,11 +1,12 @@
 -- `primitives::cross` meets its contract. Assumes nothing.
+use mathlib.Core.Path.{refl}
 use Rattle.primitives.specs.Vectors.{crossOf}
 use Rattle.primitives.proofs.cross.Statement.{statement}
 use Rattle.primitives.proofs.cross.Tie as tie
 
 returns : tie.Need-returns
 unfolding crossOf
-returns c = cc
+returns c = refl
 
 pub cross-spec : {M : Type 1} → statement M
 cross-spec = tie.close (tie.spec returns)
