@@ -53,7 +53,7 @@
 #include <stddef.h>
 #include <stdint.h>
 
-#define VISKORREL_VERSION "0.2.1"
+#define VISKORREL_VERSION "0.2.2"
 
 #ifdef __cplusplus
 extern "C" {
