@@ -1,4 +1,4 @@
-"""Writes crates/replay/data/fixtures: document 01's fixtures 4 to 14 and other calls, with the answers written by hand.
+"""Writes crates/replay/data/fixtures: document 01's fixtures 4 to 14 and other calls, with the answers written by hand; m by document 02, 1/13.
 
     fixtures.py            writes the file
     fixtures.py --list     prints the number, operation and name of each record
@@ -15,6 +15,7 @@ from shapes import *
 CALLS = []
 NONE = Shape(b"")
 NAN, INF, LEAST = math.nan, math.inf, 5e-324
+ROOM = 1 << 18  # bytes of a file that the program can hold
 TAKES_NUMBER = ("dwithin", "dfully_within", "line_interpolate_point", "patch")
 
 
@@ -213,7 +214,7 @@ def levels():
         dfully_within=[(0, True)], longest_line=((1, 2, 3), (1, 2, 3)),
     )
     calls("14, level 32 on side 2", at, nested(32, at), distance=0, max_distance=0)
-    calls("14, level 32", nested(32, at), NONE, sizes=positions(3, 2))
+    calls("14, level 32", nested(32, at), NONE, sizes=positions(4, 2))
     refusals("14, level 33", nested(33, at), at, 12, 1)
     refusals("14, level 33 on side 2", at, nested(33, at), 12, 2)
     refusals("14, level 33 on both sides", nested(33, at), nested(33, at), 12, 1)
@@ -227,7 +228,7 @@ def distances():
     calls("d", at, at, dwithin=rows, dfully_within=rows)
     below_zero = [(-1.0, refused(1, 0))]
     calls("d before all else", NONE, raw("4750"), dwithin=below_zero, dfully_within=below_zero)
-    calls("d before 15", at, at, dwithin=below_zero, dfully_within=below_zero, more=(-3, -2, -3, -2, 0))
+    calls("d before 15", at, at, dwithin=below_zero, dfully_within=below_zero, more=(-4, -2, -4, -2, 0))
 
 
 def srids():
@@ -277,14 +278,14 @@ FAULTS = [
 ]
 # fails the top Z test
 FLAT = [
-    XY, point_of_type(2001, (1, 2, 7), (1, 2, 0)), point_of_type(0x40000001, (1, 2, 7), (1, 2, 0)),
+    XY, point_of_type(2001, (1, 2, 7), (1, 2, 0, 7)), point_of_type(0x40000001, (1, 2, 7), (1, 2, 0, 7)),
     point_of_type(4001, (1, 2), (1, 2, 0)), Shape(b"\x01" + u32(7) + u32(1) + FAR.data, FAR.runs),
 ]
-# passes it, and is read as (1, 2, 3) or (1, 2, 0)
+# passes it, and is read as (1, 2, 3) or (1, 2, 0) with this m
 WITH_Z = [
-    (0x80000001, (1, 2, 3), 3), (0x80000000 + 2001, (1, 2, 7), 0), (3001, (1, 2, 3, 9), 3),
-    (0xC0000001, (1, 2, 3, 9), 3), (0x40000000 + 1001, (1, 2, 3), 3), (0x80000000 + 4001, (1, 2, 3), 3),
-    (0x80000000 + 1001, (1, 2, 3), 3),
+    (0x80000001, (1, 2, 3), 3, 0), (0x80000000 + 2001, (1, 2, 7), 0, 7), (3001, (1, 2, 3, 9), 3, 9),
+    (0xC0000001, (1, 2, 3, 9), 3, 9), (0x40000000 + 1001, (1, 2, 3), 3, 0), (0x80000000 + 4001, (1, 2, 3), 3, 0),
+    (0x80000000 + 1001, (1, 2, 3), 3, 0),
 ]
 
 
@@ -298,10 +299,55 @@ def faults():
     for shape in FLAT:
         refusals("no Z", shape, FAR, 13, 1)
         refusals("no Z on side 2", FAR, shape, 13, 2)
-        calls("no Z", shape, NONE, sizes=positions(3, 2))
-    for code, ordinates, z in WITH_Z:
-        shape = point_of_type(code, ordinates, (1, 2, z))
+        calls("no Z", shape, NONE, sizes=positions(4, 2))
+    for code, ordinates, z, m in WITH_Z:
+        shape = point_of_type(code, ordinates, (1, 2, z, m))
         calls("Z by its type", shape, point(1, 2, z), distance=0, max_distance=0, intersects=True)
+
+
+# XY, XYZ, XYM, XYZM
+MIXED = [
+    XY, point(3, 4, 12), point_of_type(2001, (7, 8, 9), (7, 8, 0, 9)), point_of_type(3001, (1, 2, 3, 10), (1, 2, 3, 10)),
+]
+
+
+def hours():
+    """m stands in the workspace and enters no answer (document 02, 1/13)."""
+    xym = point_of_type(0x80000000 + 2001, (3, 4, 99), (3, 4, 0, 99))
+    calls(
+        "XYM that passes the Z test", xym, ORIGIN, distance=5, max_distance=5, dwithin=[(5, True)],
+        closest_point=(3, 4, 0), shortest_line=((3, 4, 0), (0, 0, 0)), longest_line=((3, 4, 0), (0, 0, 0)),
+    )
+    calls("XYM that passes the Z test, on side 2", ORIGIN, xym, distance=5, max_distance=5)
+    for m in (99.5, -0.0, LEAST, -1e300, INF, NAN):
+        for name, make in (("XYZM", point_of_type), ("XYZM, big-endian", big_endian_point)):
+            a, b = make(3001, (0, 0, 0, m), (0, 0, 0, m)), make(0xC0000001, (3, 4, 12, m), (3, 4, 12, m))
+            calls(
+                name, a, b, distance=13, max_distance=13, dwithin=[(13, True), (below(13), False)], intersects=False,
+                closest_point=(0, 0, 0), shortest_line=((0, 0, 0), (3, 4, 12)), longest_line=((0, 0, 0), (3, 4, 12)),
+            )
+        rod = line_of_type(3002, [(0, 0, 0, m), (0, 0, 2, 1)], [(0, 0, 0, m), (0, 0, 2, 1)])
+        calls("a line of XYZM", rod, NONE, line_interpolate_point=[(0.5, (0, 0, 1))])
+        calls("a line of XYZM and a point", rod, point(0, 0, 5), distance=3, max_distance=5, longest_line=((0, 0, 0), (0, 0, 5)))
+    payload = Shape(head(1)[:1] + u32(3001) + bytes(24) + bytes.fromhex("010203040506F7FF"), ((1, ((0, 0, 0, NAN),)),))
+    calls("an m of another payload", payload, FAR, distance=13, max_distance=13, longest_line=((0, 0, 0), (3, 4, 12)))
+    flat = line_of_type(2002, [(0, 0, 5), (2, 0, 6)], [(0, 0, 0, 5), (2, 0, 0, 6)])
+    calls("a line of XYM", flat, NONE, line_interpolate_point=[(0.5, (1, 0, 0))])
+    mixed = collection(*MIXED)
+    calls(
+        "XY, XYZ, XYM, XYZM in one", mixed, point(7, 8, 0), distance=0, max_distance=math.sqrt(176), intersects=True,
+        shortest_line=((7, 8, 0), (7, 8, 0)), longest_line=((3, 4, 12), (7, 8, 0)),
+    )
+    # 4N floats are looked for: neither 4N - 1 nor 3N will do
+    for shape in (FAR, xym, mixed):
+        count = len(shape.ordinates) // 4
+        for less in sorted({1, count}):
+            refusals(f"{less} floats under 4N", shape, ORIGIN, 15, 1, more=(-less, 3, 5, 5, 9))
+            refusals(f"{less} floats under 4N on side 2", ORIGIN, shape, 15, 2, more=(5, 5, -less, 3, 9))
+    rod = line((0, 0, 0), (2, 0, 0))
+    for less in (1, 2):
+        calls(f"{less} floats under 4N", rod, NONE, line_interpolate_point=[(0.5, refused(15, 1))], more=(-less, 3, 0, 0, 9))
+    calls("4N floats", rod, NONE, line_interpolate_point=[(0.5, (1, 0, 0))])
 
 
 def order_of_refusals():
@@ -311,7 +357,7 @@ def order_of_refusals():
     refusals("header 1 before header 2", XY, raw("4750"), 13, 1)
     refusals("walk 1 before walk 2", nested(33, FAR), cut(FAR, 1), 12, 1)
     refusals("walk 1 before walk 2, either way", cut(FAR, 1), nested(33, FAR), 9, 1)
-    refusals("walk 2 before 15", FAR, cut(FAR, 1), 9, 2, more=(-3, -2, 0, 0, 0))
+    refusals("walk 2 before 15", FAR, cut(FAR, 1), 9, 2, more=(-4, -2, 0, 0, 0))
 
 
 def interpolations():
@@ -369,10 +415,11 @@ def patches():
 
 def lengths():
     for name, shape, floats, numbers in [
-        ("a point", FAR, 3, 2), ("an empty line", line(), 0, 0), ("a one-point line", line((1, 2, 3)), 3, 2),
-        ("two rings", face(TRIANGLE, TRIANGLE[:2]), 15, 4), ("an empty ring", face(TRIANGLE, []), 9, 2),
-        ("points", points((1, 2, 3), (4, 5, 6)), 6, 4), ("an empty collection", collection(), 0, 0),
-        ("GP", gp(collection(FAR, line((0, 0, 0), (1, 0, 0)))), 9, 4), ("bytes after", followed(FAR, b"after"), 3, 2),
+        ("a point", FAR, 4, 2), ("an empty line", line(), 0, 0), ("a one-point line", line((1, 2, 3)), 4, 2),
+        ("two rings", face(TRIANGLE, TRIANGLE[:2]), 20, 4), ("an empty ring", face(TRIANGLE, []), 12, 2),
+        ("points", points((1, 2, 3), (4, 5, 6)), 8, 4), ("an empty collection", collection(), 0, 0),
+        ("GP", gp(collection(FAR, line((0, 0, 0), (1, 0, 0)))), 12, 4), ("bytes after", followed(FAR, b"after"), 4, 2),
+        ("XYM", MIXED[2], 4, 2), ("XYZM", MIXED[3], 4, 2), ("all dimensions", collection(*MIXED), 16, 8),
     ]:
         calls(name, shape, NONE, sizes=positions(floats, numbers))
 
@@ -388,6 +435,7 @@ def main():
     srids()
     lent_memory()
     faults()
+    hours()
     order_of_refusals()
     interpolations()
     patches()
@@ -398,7 +446,10 @@ def main():
         return
     here = pathlib.Path(__file__).resolve().parent
     path = here.parent.parent / "crates" / "replay" / "data" / "fixtures"
-    path.write_bytes(b"".join(call.record() for call in CALLS))
+    data = b"".join(call.record() for call in CALLS)
+    if len(data) > ROOM:
+        sys.exit(f"{len(data)} bytes; the program holds {ROOM}")
+    path.write_bytes(data)
     print(len(CALLS), "records written")
 
 

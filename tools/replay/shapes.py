@@ -1,4 +1,4 @@
-"""Blobs from coordinates: a shape is its bytes, with the runs that document 01 reads from them.
+"""Blobs from coordinates: a shape is its bytes, with the runs that documents 01 and 02 (1/13: m) read from them.
 
 Everything is written little-endian, as ISO WKB with Z (type 1000 + kind) unless a type is given.
 """
@@ -10,13 +10,14 @@ TYPE_Z = 1000
 
 @dataclass(frozen=True)
 class Shape:
-    """Bytes, and (kind, coordinates) of each run that has a coordinate."""
+    """Bytes, and (kind, coordinates) of each run that has a coordinate, which is (x, y, z) or (x, y, z, m)."""
     data: bytes
     runs: tuple = ()
 
     @property
     def ordinates(self):
-        return [v for _, coordinates in self.runs for c in coordinates for v in c]
+        """Four of each coordinate; an m that is not there is 0."""
+        return [v for _, coordinates in self.runs for c in coordinates for v in (*c, 0.0)[:4]]
 
     @property
     def table(self):
@@ -73,6 +74,15 @@ def nested(levels, shape):
 def point_of_type(code, ordinates, c):
     """A point of any type code, with its ordinates as written and the coordinate as read."""
     return Shape(b"\x01" + u32(code) + doubles([ordinates]), kept(1, [c]))
+
+
+def big_endian_point(code, ordinates, c):
+    return Shape(struct.pack(f">BI{len(ordinates)}d", 0, code, *ordinates), kept(1, [c]))
+
+
+def line_of_type(code, ordinates, coordinates):
+    """A line of any type code, in the same way."""
+    return Shape(b"\x01" + u32(code) + u32(len(ordinates)) + doubles(ordinates), kept(2, coordinates))
 
 
 def with_srid(shape, srid):

@@ -1,8 +1,8 @@
-"""Hand-made and damaged blobs, with what document 01 gives for each.
+"""Hand-made and damaged blobs, with what document 01 gives for each, and document 02 (1/13) for m.
 
 A blob is written in words: bytes in hexadecimal, `u<5` or `u>5` for a 32-bit number in little- or
 big-endian order, `d<0.5` or `d>0.5` for a double, `p<7ff8000000000001` for a double by its pattern.
-What is expected is refused(NUMBER), or read(SRID, (KIND, "x y z, x y z"), ..), run by run.
+What is expected is refused(NUMBER), or read(SRID, (KIND, "x y z, x y z m"), ..), run by run; an m that is not named is 0.
 """
 import struct
 
@@ -26,8 +26,12 @@ def refused(number):
 
 
 def read(srid, *runs):
+    def coordinate(text):
+        x, y, z, m = [float(v) for v in text.split() + ["0"]][:4]
+        return (x, y, z, m)
+
     def coordinates(text):
-        return [tuple(float(v) for v in c.split()) for c in text.split(",")]
+        return [coordinate(c) for c in text.split(",")]
 
     return ("read", srid, [(kind, coordinates(text)) for kind, text in runs])
 
@@ -47,7 +51,7 @@ LEVEL_BIG = "00 u>0x20000007 u>5 u>1 "
 ONE = (1, "1 2 3")
 ONE_BIG = (1, "4 5 6")
 ONE_XY = (1, "7 8 0")
-ONE_M = (1, "9 10 0")
+ONE_M = (1, "9 10 0 11")
 TWO = (2, "0 0 0, 3 4 12")
 THREE = (17, "0 0 0, 4 0 0, 0 4 0")
 
@@ -159,8 +163,8 @@ KINDS = [
 TYPES = [
     ("1", "01 u<1 d<1 d<2 d<3 d<4", read(0, (1, "1 2 0"))),
     ("1001", "01 u<1001 d<1 d<2 d<3 d<4", read(0, ONE)),
-    ("2001", "01 u<2001 d<1 d<2 d<3 d<4", read(0, (1, "1 2 0"))),
-    ("3001", "01 u<3001 d<1 d<2 d<3 d<4", read(0, ONE)),
+    ("2001", "01 u<2001 d<1 d<2 d<3 d<4", read(0, (1, "1 2 0 3"))),
+    ("3001", "01 u<3001 d<1 d<2 d<3 d<4", read(0, (1, "1 2 3 4"))),
     ("3001, no room for m", "01 u<3001 d<1 d<2 d<3", refused(9)),
     ("2001, no room for m", "01 u<2001 d<1 d<2", refused(9)),
     ("4001", "01 u<4001 d<1 d<2", read(0, (1, "1 2 0"))),
@@ -168,20 +172,20 @@ TYPES = [
     ("65001", "01 u<65001 d<1 d<2", read(0, (1, "1 2 0"))),
     ("4001 with flag Z", "01 u<0x80000FA1 d<1 d<2 d<3", read(0, ONE)),
     ("4001 with flag M, no room for m", "01 u<0x40000FA1 d<1 d<2", refused(9)),
-    ("4001 with flag M", "01 u<0x40000FA1 d<1 d<2 d<3", read(0, (1, "1 2 0"))),
-    ("65001 with both flags", "00 u>0xC000FDE9 d>1 d>2 d>3 d>4", read(0, ONE)),
+    ("4001 with flag M", "01 u<0x40000FA1 d<1 d<2 d<3", read(0, (1, "1 2 0 3"))),
+    ("65001 with both flags", "00 u>0xC000FDE9 d>1 d>2 d>3 d>4", read(0, (1, "1 2 3 4"))),
     ("flag Z", "01 u<0x80000001 d<1 d<2 d<3", read(0, ONE)),
-    ("flag M", "01 u<0x40000001 d<1 d<2 d<3", read(0, (1, "1 2 0"))),
-    ("both flags", "01 u<0xC0000001 d<1 d<2 d<3 d<4", read(0, ONE)),
+    ("flag M", "01 u<0x40000001 d<1 d<2 d<3", read(0, (1, "1 2 0 3"))),
+    ("both flags", "01 u<0xC0000001 d<1 d<2 d<3 d<4", read(0, (1, "1 2 3 4"))),
     ("both flags, no room for m", "01 u<0xC0000001 d<1 d<2 d<3", refused(9)),
     ("1001 with flag Z", "01 u<0x800003E9 d<1 d<2 d<3", read(0, ONE)),
     ("1001 with flag M has no m", "01 u<0x400003E9 d<1 d<2 d<3", read(0, ONE)),
-    ("2001 with flag Z is XYM", "01 u<0x800007D1 d<1 d<2 d<3", read(0, (1, "1 2 0"))),
-    ("2001 with flag Z, big-endian", "00 u>0x800007D1 d>1 d>2 d>3", read(0, (1, "1 2 0"))),
+    ("2001 with flag Z is XYM", "01 u<0x800007D1 d<1 d<2 d<3", read(0, (1, "1 2 0 3"))),
+    ("2001 with flag Z, big-endian", "00 u>0x800007D1 d>1 d>2 d>3", read(0, (1, "1 2 0 3"))),
     ("2001 with flag Z, no room for m", "01 u<0x800007D1 d<1 d<2", refused(9)),
-    ("2001 with both flags is XYM", "01 u<0xC00007D1 d<1 d<2 d<3", read(0, (1, "1 2 0"))),
-    ("3001 with every flag", "01 u<0xE0000BB9 u<9 d<1 d<2 d<3 d<4", read(9, ONE)),
-    ("a line, 2002 with flag Z", "01 u<0x800007D2 u<2 d<1 d<2 d<3 d<4 d<5 d<6", read(0, (2, "1 2 0, 4 5 0"))),
+    ("2001 with both flags is XYM", "01 u<0xC00007D1 d<1 d<2 d<3", read(0, (1, "1 2 0 3"))),
+    ("3001 with every flag", "01 u<0xE0000BB9 u<9 d<1 d<2 d<3 d<4", read(9, (1, "1 2 3 4"))),
+    ("a line, 2002 with flag Z", "01 u<0x800007D2 u<2 d<1 d<2 d<3 d<4 d<5 d<6", read(0, (2, "1 2 0 3, 4 5 0 6"))),
     ("bits 16 to 28 count for nothing", "01 u<0x1FFF03E9 d<1 d<2 d<3", read(0, ONE)),
     ("bit 16 only", "01 u<0x00010001 d<1 d<2", read(0, (1, "1 2 0"))),
 ]
@@ -198,13 +202,37 @@ ORDINATES = [
     ("a line with a NaN", "01 u<1002 u<2 d<0 d<nan d<0 d<1 d<1 d<1", read(0, (2, "0 nan 0, 1 1 1"))),
 ]
 
+# ---- m, the fourth float of a coordinate
+
+M = [
+    ("XYM that passes the Z test", "01 u<0x800007D1 d<3 d<4 d<99", read(0, (1, "3 4 0 99"))),
+    ("XYZM", "01 u<3001 d<1 d<2 d<3 d<99.5", read(0, (1, "1 2 3 99.5"))),
+    ("XYZM, big-endian", "00 u>3001 d>1 d>2 d>3 d>99.5", read(0, (1, "1 2 3 99.5"))),
+    ("XYZM by flags, an SRID before it", "00 u>0xE0000001 u>4326 d>1 d>2 d>3 d>99.5", read(4326, (1, "1 2 3 99.5"))),
+    ("XYZM of a GP blob with an envelope of M", "47500009E6100000 " + "d<7 " * 8 + "01 u<3001 d<1 d<2 d<3 d<99.5", read(4326, (1, "1 2 3 99.5"))),
+    ("XYZ, and a number that follows", "01 u<1001 d<1 d<2 d<3 d<99.5", read(0, ONE)),
+    ("XY, and numbers that follow", "00 u>1 d>1 d>2 d>3 d>99.5", read(0, (1, "1 2 0"))),
+    ("NaNs of many patterns", "01 u<3002 u<4 " + " ".join("d<1 d<2 d<3 p<" + p for p in (
+        "7ff8000000000000", "fff8000000000000", "7ff0000000000001", "ffffffffffffffff")), read(0, (2, ", ".join(["1 2 3 nan"] * 4)))),
+    ("zeros", "00 u>2002 u>2 d>1 d>2 p>8000000000000000 d>3 d>4 p>0000000000000000", read(0, (2, "1 2 0 -0.0, 3 4 0 0"))),
+    ("least, greatest, infinities", "01 u<2002 u<4 d<1 d<1 p<0000000000000001 d<2 d<2 p<7fefffffffffffff d<3 d<3 p<7ff0000000000000 d<4 d<4 p<fff0000000000000",
+     read(0, (2, "1 1 0 5e-324, 2 2 0 1.7976931348623157e308, 3 3 0 inf, 4 4 0 -inf"))),
+    ("XYM and XYZM differ from coordinate to coordinate", "00 u>7 u>2 00 u>2002 u>2 d>1 d>2 d>10 d>3 d>4 d>20 01 u<3002 u<2 d<5 d<6 d<7 d<30 d<8 d<9 d<10 d<40",
+     read(0, (2, "1 2 0 10, 3 4 0 20"), (2, "5 6 7 30, 8 9 10 40"))),
+    ("XY, XYZ, XYM, XYZM in one collection", "01 u<7 u<4 " + POINT_XY + POINT + POINT_M + "01 u<3001 d<12 d<13 d<14 d<15", read(0, ONE_XY, ONE, ONE_M, (1, "12 13 14 15"))),
+    ("the same, the other way round", "00 u>0xC0000007 u>4 01 u<3001 d<12 d<13 d<14 d<15 " + POINT_M + POINT + POINT_XY, read(0, (1, "12 13 14 15"), ONE_M, ONE, ONE_XY)),
+    ("the collection's M is not its member's", "01 u<3007 u<1 " + POINT, read(0, ONE)),
+    ("rings of XYZM, one empty", "01 u<3003 u<3 u<1 d<1 d<2 d<3 d<10 u<0 u<2 d<4 d<5 d<6 d<20 d<7 d<8 d<9 d<30", read(0, (3, "1 2 3 10"), (3, "4 5 6 20, 7 8 9 30"))),
+    ("a triangle of XYM", "00 u>2017 u>1 u>3 d>0 d>0 d>1 d>4 d>0 d>2 d>0 d>4 d>3", read(0, (17, "0 0 0 1, 4 0 0 2, 0 4 0 3"))),
+]
+
 # ---- lines, rings and their counts
 
 COUNTS = [
     ("a line of 0", "01 u<1002 u<0", read(0)),
     ("a line of 1", "01 u<1002 u<1 d<1 d<2 d<3", read(0, (2, "1 2 3"))),
     ("a line of 2", LINE, read(0, TWO)),
-    ("a line of 2, big-endian XYZM", "00 u>3002 u>2 d>1 d>2 d>3 d>9 d>4 d>5 d>6 d>9", read(0, (2, "1 2 3, 4 5 6"))),
+    ("a line of 2, big-endian XYZM", "00 u>3002 u>2 d>1 d>2 d>3 d>9 d>4 d>5 d>6 d>9", read(0, (2, "1 2 3 9, 4 5 6 9"))),
     ("a line of 3, two are there", "01 u<1002 u<3 d<0 d<0 d<0 d<3 d<4 d<12", refused(9)),
     ("a line of 2^32 - 1", "01 u<1002 u<0xFFFFFFFF d<0 d<0 d<0 d<3 d<4 d<12", refused(9)),
     ("a line of 2^32 - 1, nothing after", "01 u<2 u<0xFFFFFFFF", refused(9)),
@@ -308,12 +336,12 @@ BEGINNINGS = [
     ("GP, byte order 2", "4750000100000000 02 u<1001 d<1 d<2 d<3", {0: 9, 2: 3, 8: 9, 13: 10}),
     ("point", POINT, {0: 9, 29: read(0, ONE)}),
     ("point without Z, trailing bytes", POINT_XY + "01 02 03", {0: 9, 21: read(0, ONE_XY)}),
-    ("point, big-endian XYZM", "00 u>3001 d>1 d>2 d>3 d>4", {0: 9, 37: read(0, ONE)}),
+    ("point, big-endian XYZM", "00 u>3001 d>1 d>2 d>3 d>4", {0: 9, 37: read(0, (1, "1 2 3 4"))}),
     ("point of byte order 2", "02 u<1001 d<1 d<2 d<3", {0: 9, 5: 10}),
     ("unknown kind", "01 u<1008 u<0 u<0", {0: 9, 5: 11}),
     ("unknown kind with an SRID", "01 u<0x20000008 u<4326 u<0", {0: 9, 9: 11}),
     ("line", LINE, {0: 9, 57: read(0, TWO)}),
-    ("line with an SRID, big-endian", "00 u>0x60000002 u>4326 u>2 d>1 d>2 d>3 d>4 d>5 d>6", {0: 9, 61: read(4326, (2, "1 2 0, 4 5 0"))}),
+    ("line with an SRID, big-endian", "00 u>0x60000002 u>4326 u>2 d>1 d>2 d>3 d>4 d>5 d>6", {0: 9, 61: read(4326, (2, "1 2 0 3, 4 5 0 6"))}),
     ("polygon, big-endian, two rings", POLYGON_BIG, {0: 9, 113: read(0, *POLYGON_RUNS)}),
     ("triangle", TRIANGLE, {0: 9, 85: read(0, THREE)}),
     ("nested, mixed byte orders", NESTED, {0: 9, 202: read(4326, ONE_BIG, TWO, THREE)}),
@@ -339,6 +367,7 @@ def cases():
         ("kind", KINDS),
         ("type", TYPES),
         ("ordinates", ORDINATES),
+        ("m", M),
         ("count", COUNTS),
         ("members", MEMBERS),
         ("level", LEVELS),

@@ -1,7 +1,7 @@
 """Writes the data of the program `samples` and the output that is expected of it.
 
 A blob is written as a little-endian u32, its length, and its bytes. What is expected of it is
-either a refusal's number, or an SRID and runs: pairs of a kind and a list of (x, y, z).
+either a refusal's number, or an SRID and runs: pairs of a kind and a list of (x, y, z, m).
 """
 import math
 import pathlib
@@ -15,6 +15,7 @@ import outside
 
 HERE = pathlib.Path(__file__).resolve().parent
 CRATE = HERE.parent.parent / "crates" / "samples"
+FLOATS = 4  # of a coordinate: x, y, z, m
 
 
 def pattern(x):
@@ -35,12 +36,12 @@ def refused_line(number):
 def read_line(srid, runs):
     ordinates = [pattern(v) for _, coordinates in runs for c in coordinates for v in c]
     table = [f"{kind} {len(coordinates)}" for kind, coordinates in runs]
-    n, r = len(ordinates) // 3, len(runs)
+    n, r = len(ordinates) // FLOATS, len(runs)
     parts = [
         f"srid {srid} coords {n} runs {r} changed 0 0",
         " ".join(["table"] + table),
         " ".join(["floats"] + ordinates),
-        f"sizes {3 * n} {2 * r}",
+        f"sizes {FLOATS * n} {2 * r}",
         "exact read changed 0 0",
     ]
     if n:

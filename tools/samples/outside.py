@@ -1,6 +1,6 @@
 """What document 01 gives for the blobs of outside.tsv, from their WKT and not from their bytes.
 
-Z that is missing is 0, M is dropped, and an empty point is a point of NaNs. Where the producer
+Z and M that are missing are 0, and an empty point is a point of NaNs. Where the producer
 wrote an envelope, it must be that of the ordinates expected.
 """
 import math
@@ -80,12 +80,12 @@ SRIDS = {
 
 def coordinate(text, dimensions):
     values = [float(v) for v in text.split()]
-    return (values[0], values[1], values[2] if "Z" in dimensions else 0.0)
+    return (values[0], values[1], values[2] if "Z" in dimensions else 0.0, values[-1] if "M" in dimensions else 0.0)
 
 
 def empty_point(dimensions):
     nan = float("nan")
-    return (nan, nan, nan if "Z" in dimensions else 0.0)
+    return (nan, nan, nan if "Z" in dimensions else 0.0, nan if "M" in dimensions else 0.0)
 
 
 def split(text):
@@ -127,12 +127,12 @@ def runs_at(blob, order, width, places):
     for kind, count, start in places:
         values = struct.unpack_from(f"{order}{width * count}d", blob, start)
         run = [values[width * i : width * (i + 1)] for i in range(count)]
-        runs.append((kind, [(c[0], c[1], c[2] if width == 3 else 0.0) for c in run]))
+        runs.append((kind, [(c[0], c[1], c[2] if width == 3 else 0.0, 0.0) for c in run]))
     return runs
 
 
 def moved(runs, by):
-    return [(kind, [tuple(v + d for v, d in zip(c, by)) for c in cs]) for kind, cs in runs]
+    return [(kind, [tuple(v + d for v, d in zip(c, (*by, 0.0))) for c in cs]) for kind, cs in runs]
 
 
 def srid_of(producer, text):

@@ -39,7 +39,7 @@ refusal number = record { number = number; side = 1 }
 
 -- ---- what to lend: an entry for callers, beside document 01's operations
 
--- by the first check of the bytes that holds: a refusal, or 3N floats and 2R numbers
+-- by the first check of the bytes that holds: a refusal, or 4N floats and 2R numbers
 unfoldable pub sizesBy : Option ℕ → List (Run Coordinate) → Sizes
 sizesBy (some k) rs = sizes.Refused (refusal k)
 sizesBy none rs = sizes.Lend (floatsNeeded rs) (numbersNeeded rs)

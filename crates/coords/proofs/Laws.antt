@@ -8,7 +8,7 @@ use native.Mathlib.Omega.{arith}
 use lib.Dec.{ltb}
 use lib.ListN.{length}
 use borrow.Author.Tests.{ltb-true, ltb-false, lt-ltb, le-ltb}
-use Rattle.coords.specs.Walk.{ok, strideOf, stride, coordinatesFrom}
+use Rattle.coords.specs.Walk.{ok, strideOf, mOffset, stride, coordinatesFrom}
 use Rattle.coords.specs.Parts.{nonEmptyRun, coordinateCount, otherIf, otherCount}
 use Rattle.coords.specs.Inner.{coordinatesRuns}
 use Rattle.coords.proofs.Runs.{coordinates-runs}
@@ -77,3 +77,8 @@ pub wide-with-z : (m : Bool) → 24 ≤ strideOf true m
 unfolding strideOf
 wide-with-z true = omega arith
 wide-with-z false = omega arith
+
+pub wide-with-m : (z : Bool) → mOffset z + 8 ≤ strideOf z true
+unfolding strideOf mOffset
+wide-with-m true = omega arith
+wide-with-m false = omega arith

@@ -20,7 +20,7 @@ pub record Workspaces : Type 0 where
 abbrev pub workspaces : List Float → List ℕ → List Float → List ℕ → Workspaces
 workspaces f t g u = record { floats1 = f; table1 = t; floats2 = g; table2 = u }
 
--- 15: a side's workspace of so many floats and numbers is under 3N or 2R
+-- 15: a side's workspace of so many floats and numbers is under 4N or 2R
 unfoldable pub workspaceChecks : List ℕ → ℕ → ℕ → List (Check ℕ)
 workspaceChecks s floats numbers = check 15 (tooSmall (runsOfBlob s) floats numbers) ∷ []
 

@@ -15,7 +15,7 @@ use Rattle.parts.specs.Stored.{storedPoint, pointsFrom, runsFrom, stored
 use Rattle.coords.proofs.Parts.{vertices-map}
 use Rattle.workspace.proofs.Contents.{length-coordinatesFloats}
 
--- three floats on
+-- a coordinate on
 more-floats : (before : List Float) (c : Coordinate) (at : ℕ) → length before ≡ floatsPerCoordinate * at → length (before ++ coordinateFloats c) ≡ floatsPerCoordinate * (at + 1)
 unfolding coordinateFloats
 more-floats before c at e = simp length-append (omega arith)

@@ -84,7 +84,7 @@ patchReply (patch.refusing n side) = pairRefused n side
 
 -- ---- a blob read
 
--- the floats and numbers filled: 3N, then 2R
+-- the floats and numbers filled: 4N, then 2R
 unfoldable pub readReply : BlobRead → PairReply
 readReply (blob-read.Read coords runs srid) = pairOf 1 (floatsPerCoordinate * coords) (numbersPerRun * runs)
 readReply (blob-read.Refused r) = pairRefused (r .number) (r .side)

@@ -4,6 +4,8 @@
 use blob::BlobRead;
 use blob::Sizes;
 use refusals::Refusal;
+use workspace::FLOATS_PER_COORDINATE;
+use workspace::NUMBERS_PER_RUN;
 ghost use Prim.Native.Nat.{_+_, _≤_, _<_};
 
 // What the workspace holds before a read: no sample has this ordinate, kind or count.
@@ -107,14 +109,14 @@ fn say_changed(floats: &[f64], n: usize, table: &[u32], m: usize) {
 
 // What an accepted read left in the workspace.
 fn say_read(srid: u32, coords: usize, runs: usize, floats: &[f64], table: &[u32]) {
-    if floats.len() / 3 < coords {
+    if floats.len() / FLOATS_PER_COORDINATE < coords {
         return;
     }
-    if table.len() / 2 < runs {
+    if table.len() / NUMBERS_PER_RUN < runs {
         return;
     }
-    let n = 3 * coords;
-    let m = 2 * runs;
+    let n = FLOATS_PER_COORDINATE * coords;
+    let m = NUMBERS_PER_RUN * runs;
     say_srid(srid);
     say(b" coords ", coords as u64);
     say(b" runs ", runs as u64);

@@ -15,7 +15,7 @@ unfolding coordinatesFloats
 length-coordinatesFloats [] = refl
 length-coordinatesFloats (c ∷ cs) = length-append (coordinateFloats c) (coordinatesFloats cs) ∙ omega (arith, length-coordinateFloats c, length-coordinatesFloats cs)
 
--- 3N floats
+-- 4N floats
 pub length-floats : (rs : List (Run Coordinate)) → length (floatsOf rs) ≡ floatsPerCoordinate * coordinateCount rs
 unfolding floatsOf coordinateCount
 length-floats [] = refl

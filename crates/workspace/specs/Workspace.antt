@@ -1,4 +1,4 @@
--- What the workspace of one side holds (document 01, Parts): the first 3N floats and the first 2R numbers. Definitions only.
+-- What the workspace of one side holds (document 01, Parts; document 02, 1/13: x, y, z, m per coordinate): the first 4N floats and the first 2R numbers. Definitions only.
 use Prim.Native.Nat.{ℕ, _*_, _≤_}
 use mathlib.Core.Path.{_≡_}
 use mathlib.Core.Bool.{Bool, true, _||_}
@@ -12,15 +12,15 @@ use Rattle.coords.specs.Refusals.{isAccepted}
 
 -- floats for each coordinate: the length of coordinateFloats
 abbrev pub floatsPerCoordinate : ℕ
-floatsPerCoordinate = 3
+floatsPerCoordinate = 4
 
 -- numbers for each run: the length of runNumbers
 abbrev pub numbersPerRun : ℕ
 numbersPerRun = 2
 
--- x, y, z; every NaN pattern is nan
+-- x, y, z, m; every NaN pattern is nan
 unfoldable pub coordinateFloats : Coordinate → List Float
-coordinateFloats c = ofBits binary64 (c .x) ∷ ofBits binary64 (c .y) ∷ ofBits binary64 (c .z) ∷ []
+coordinateFloats c = ofBits binary64 (c .x) ∷ ofBits binary64 (c .y) ∷ ofBits binary64 (c .z) ∷ ofBits binary64 (c .m) ∷ []
 
 -- kind and count
 unfoldable pub runNumbers : {A : Type 0} → ℕ → List A → List ℕ
@@ -41,7 +41,7 @@ unfoldable pub tableOf : {A : Type 0} → List (Run A) → List ℕ
 tableOf [] = []
 tableOf (run kind cs ∷ rs) = runNumbers kind cs ++ tableOf rs
 
--- the lengths to lend: 3N floats
+-- the lengths to lend: 4N floats
 abbrev pub floatsNeeded : {A : Type 0} → List (Run A) → ℕ
 floatsNeeded rs = floatsPerCoordinate * coordinateCount rs
 
@@ -49,7 +49,7 @@ floatsNeeded rs = floatsPerCoordinate * coordinateCount rs
 abbrev pub numbersNeeded : {A : Type 0} → List (Run A) → ℕ
 numbersNeeded rs = numbersPerRun * length rs
 
--- 15: workspace under 3N or 2R
+-- 15: workspace under 4N or 2R
 unfoldable pub tooSmallFor : ℕ → ℕ → ℕ → ℕ → Bool
 tooSmallFor coords runs floats numbers = ltb floats (floatsPerCoordinate * coords) || ltb numbers (numbersPerRun * runs)
 
@@ -57,7 +57,7 @@ tooSmallFor coords runs floats numbers = ltb floats (floatsPerCoordinate * coord
 abbrev pub tooSmall : {A : Type 0} → List (Run A) → ℕ → ℕ → Bool
 tooSmall rs floats numbers = tooSmallFor (coordinateCount rs) (length rs) floats numbers
 
--- the floats once the runs are written: the first 3N are theirs, the rest is unchanged
+-- the floats once the runs are written: the first 4N are theirs, the rest is unchanged
 unfoldable pub floatsWith : List (Run Coordinate) → List Float → List Float
 floatsWith rs floats = floatsOf rs ++ drop (floatsNeeded rs) floats
 

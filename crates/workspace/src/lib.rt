@@ -9,14 +9,14 @@ ghost use Prim.Native.Nat.{_+_, _*_, _≤_};
 ghost use lib.ListN.{length};
 ghost use lib.Seq.{sets};
 ghost use lib.Ieee.{binary64, ofBits};
-ghost use Rattle.coords.specs.Walk.{stride, strideOf, ordinateIf, coordinateAt, coordinatesFrom, allLevels, walkOf};
+ghost use Rattle.coords.specs.Walk.{stride, strideOf, ordinateIf, mOffset, coordinateAt, coordinatesFrom, allLevels, walkOf};
 ghost use Rattle.coords.specs.Parts.{walkedRuns};
 ghost use Rattle.coords.specs.Inner.{coordinatesRuns, lineRuns, ringsAtRuns, membersAtRuns, walkRuns};
 ghost use Rattle.workspace.specs.Workspace.{floatsPerCoordinate, coordinateFloats, coordinatesFloats, tooSmallFor, Room, RunsWritten};
 ghost use Rattle.workspace.specs.Inner.{ReadyToFill, Filled};
 
-// The floats of a coordinate.
-pub const FLOATS_PER_COORDINATE: usize = 3;
+// The floats of a coordinate: x, y, z, m.
+pub const FLOATS_PER_COORDINATE: usize = 4;
 
 // The numbers of a run.
 pub const NUMBERS_PER_RUN: usize = 2;
@@ -36,6 +36,25 @@ fn z_at(s: &[u8], z: bool, m: bool, little: bool, at: usize) -> f64
     if z { f64_at(s, at + 16, little) } else { 0.0 }
 }
 
+// How far the m of a coordinate lies from its start: after z where there is z.
+fn m_offset(z: bool) -> usize
+    ensures { λ r. ⌜ r ≡ mOffset z ⌝ }
+{
+    if z { 24 } else { 16 }
+}
+
+// The m of a coordinate, or 0 where there is none.
+fn m_at(s: &[u8], z: bool, m: bool, little: bool, at: usize) -> f64
+    requires { ⌜ at + strideOf z m ≤ length (now s) ⌝ }
+    ensures { λ r. ⌜ r ≡ ofBits binary64 (ordinateIf m little (now (s .entry)) (at + mOffset z)) ⌝ }
+{
+    if m {
+        f64_at(s, at + m_offset(z), little)
+    } else {
+        0.0
+    }
+}
+
 // The coordinate at a position, as the i-th.
 fn put_coordinate(s: &[u8], h: WkbHeader, at: usize, floats: &mut [f64], i: usize)
     requires { ⌜ at + stride h ≤ length (now s) ⌝ }
@@ -46,9 +65,11 @@ fn put_coordinate(s: &[u8], h: WkbHeader, at: usize, floats: &mut [f64], i: usiz
     let x = f64_at(s, at, h.little);
     let y = f64_at(s, at + 8, h.little);
     let z = z_at(s, h.z, h.m, h.little, at);
+    let m = m_at(s, h.z, h.m, h.little, at);
     floats[k] = x;
     floats[k + 1] = y;
     floats[k + 2] = z;
+    floats[k + 3] = m;
 }
 
 // n coordinates from a position on, as the i-th and on.
