@@ -9,8 +9,9 @@ use Rattle.blob.specs.Blob.{runsOfBlob}
 use Rattle.parts.specs.Points.{pointOf}
 use Rattle.operands.specs.Operands.{Workspaces}
 use Rattle.outcomes.specs.Operations.{noSide}
-use Rattle.outcomes.specs.Alike.{MeasuredAlike, AnswersAlike}
+use Rattle.outcomes.specs.Alike.{MeasuredAlike, AnswersAlike, SameButM}
 use Rattle.outcomes.proofs.Alike.{coordinates-alike, runs-alike, two-alike, side-alike, alike}
+use Rattle.outcomes.proofs.WithoutM.{same-but-m-measured-alike}
 use Rattle.interpolation.specs.Operation.{outOfRange, isNoLine, interpolationChecks, checksOfLent, pointOfBlob, lineInterpolatePoint}
 use Rattle.interpolation.proofs.Lines.{segments-map}
 
@@ -39,3 +40,7 @@ module _ (s t : List ℕ) (same : MeasuredAlike s t) where
   pub line-interpolate-point-alike : (fraction : Float) (w : Workspaces) (lent : List ℕ) → AnswersAlike (lineInterpolatePoint s fraction w lent) (lineInterpolatePoint t fraction w lent)
   unfolding lineInterpolatePoint pointOfBlob
   line-interpolate-point-alike fraction w lent = alike _ _ _ _ _ _ _ _ _ _ (checks-alike fraction w lent) refl (rw (same .srid, same .points))
+
+-- End theorem: where what is read of two blobs differs in m at most, the report and output are the same.
+pub m-is-ignored-along : (s t : List ℕ) → SameButM s t → (fraction : Float) (w : Workspaces) (lent : List ℕ) → AnswersAlike (lineInterpolatePoint s fraction w lent) (lineInterpolatePoint t fraction w lent)
+m-is-ignored-along s t h = line-interpolate-point-alike s t (same-but-m-measured-alike s t h)

@@ -8,7 +8,7 @@ use lib.Ieee.{Float}
 use Rattle.refusals.specs.Checks.{Check, firstOf, onSide}
 use Rattle.refusals.specs.declared.Refusal.{Refusal}
 use Rattle.refusals.proofs.Sides.{first-on-side, first-of-two}
-use Rattle.gpb.specs.Header.{geometryStart, sridOf, headerChecks3d}
+use Rattle.gpb.specs.Header.{geometryStart, topType, hasZ, sridOf, lacksZ, headerChecks, headerChecks3d}
 use Rattle.gpb.specs.Written.{pointBytes}
 use Rattle.coords.specs.Walk.{Parsed, Geometry}
 use Rattle.coords.specs.Parts.{mapRuns, walkedRuns, coordinateCount, verticesOf}
@@ -23,7 +23,7 @@ use Rattle.items.specs.Items.{itemsOf}
 use Rattle.operands.specs.Operands.{Workspaces, workspaceChecks, operandChecks, lentChecks}
 use Rattle.outcomes.specs.Answers.{Report, answering}
 use Rattle.outcomes.specs.Operations.{outcome, toleranceChecks, outputChecks, unless, vertexPoints, itemsOfBlob, farthestPair, closestPair, distanceValue, withinValue, touchingValue, blobValue, lineAfter, pointAfter, maxDistance, fullyWithin, lineChecks, longestLine, distance, within, intersects, closestPoint, shortestLine}
-use Rattle.outcomes.specs.Alike.{MeasuredAlike, AnswersAlike}
+use Rattle.outcomes.specs.Alike.{MeasuredAlike, SameZTest, AnswersAlike, PairsAnsweredAlike}
 
 -- ---- what is ignored of a blob
 
@@ -34,15 +34,17 @@ ignored-measured-alike s t h =
     let r = ignored-changes-nothing s t h in
     record {
       header = ap firstOf (r .header);
-      header-3d = ap firstOf (r .header-3d);
       walk = rw (r .walk);
       srid = r .srid;
       points = ap (λ (w : Parsed Geometry). mapRuns pointOf (walkedRuns w)) (r .walk);
     }
 
+pub ignored-same-z-test : (s t : List ℕ) → SameButIgnored s t → SameZTest s t
+ignored-same-z-test s t h = ap hasZ (ignored-changes-nothing s t h .type)
+
 -- every blob is measured as itself: the law for one side is that for both
 pub measured-as-itself : (s : List ℕ) → MeasuredAlike s s
-measured-as-itself s = record { header = refl; header-3d = refl; walk = refl; srid = refl; points = refl }
+measured-as-itself s = record { header = refl; walk = refl; srid = refl; points = refl }
 
 -- ---- counts
 
@@ -55,11 +57,16 @@ module _ (s t : List ℕ) (same : MeasuredAlike s t) where
 
 -- ---- refusals
 
-pub two-alike : (cs cs′ ds ds′ : List (Check Refusal)) → firstOf cs ≡ firstOf cs′ → firstOf ds ≡ firstOf ds′ → firstOf (cs ++ ds) ≡ firstOf (cs′ ++ ds′)
+pub two-alike : {A : Type 0} (cs cs′ ds ds′ : List (Check A)) → firstOf cs ≡ firstOf cs′ → firstOf ds ≡ firstOf ds′ → firstOf (cs ++ ds) ≡ firstOf (cs′ ++ ds′)
 two-alike cs cs′ ds ds′ p q = first-of-two cs ds ∙ (rw (p, q) (sym (first-of-two cs′ ds′)))
 
 pub side-alike : (side : ℕ) (cs cs′ : List (Check ℕ)) → firstOf cs ≡ firstOf cs′ → firstOf (onSide side cs) ≡ firstOf (onSide side cs′)
 side-alike side cs cs′ p = first-on-side side cs ∙ (rw p (sym (first-on-side side cs′)))
+
+-- 13 comes last of the header's
+header-3d-alike : (s t : List ℕ) → MeasuredAlike s t → SameZTest s t → firstOf (headerChecks3d s) ≡ firstOf (headerChecks3d t)
+unfolding headerChecks3d lacksZ
+header-3d-alike s t h z = two-alike _ _ _ _ (h .header) (rw z)
 
 -- ---- outcomes
 
@@ -71,7 +78,7 @@ alike x y r r′ m m′ w o o′ l e p q = rw e (go y)
     go none = record { report = p; output = q }
     go (some t) = record { report = refl; output = refl }
 
-module _ (a a′ b b′ : List ℕ) (first : MeasuredAlike a a′) (second : MeasuredAlike b b′) where
+module _ (a a′ b b′ : List ℕ) (first : MeasuredAlike a a′) (first-z : SameZTest a a′) (second : MeasuredAlike b b′) (second-z : SameZTest b b′) where
   -- ---- the pairs
 
   vertices-alike : (s t : List ℕ) → MeasuredAlike s t → vertexPoints s ≡ vertexPoints t
@@ -89,8 +96,8 @@ module _ (a a′ b b′ : List ℕ) (first : MeasuredAlike a a′) (second : Mea
     lent-alike : firstOf (lentChecks a b w) ≡ firstOf (lentChecks a′ b′ w)
     unfolding operandChecks workspaceChecks
     lent-alike =
-        two-alike _ _ _ _ (side-alike 1 _ _ (first .header-3d))
-        (two-alike _ _ _ _ (side-alike 2 _ _ (second .header-3d))
+        two-alike _ _ _ _ (side-alike 1 _ _ (header-3d-alike a a′ first first-z))
+        (two-alike _ _ _ _ (side-alike 2 _ _ (header-3d-alike b b′ second second-z))
         (two-alike _ _ _ _ (side-alike 1 _ _ (first .walk))
         (two-alike _ _ _ _ (side-alike 2 _ _ (second .walk))
         (rw (coordinates-alike a a′ first, runs-alike a a′ first, coordinates-alike b b′ second, runs-alike b b′ second)))))
@@ -132,3 +139,23 @@ module _ (a a′ b b′ : List ℕ) (first : MeasuredAlike a a′) (second : Mea
     pub shortest-line-alike : (lent : List ℕ) → AnswersAlike (shortestLine a b w lent) (shortestLine a′ b′ w lent)
     unfolding shortestLine
     shortest-line-alike lent = alike _ _ _ _ _ _ _ _ _ _ (line-alike lent) (ap (λ (p : Option Witness). answering (blobValue p)) closest-alike) (rw (first .srid, closest-alike))
+
+-- ---- all of them
+
+pub pairs-answered-alike : (a a′ b b′ : List ℕ) → MeasuredAlike a a′ → SameZTest a a′ → MeasuredAlike b b′ → SameZTest b b′ → PairsAnsweredAlike a b a′ b′
+pairs-answered-alike a a′ b b′ p y q z =
+    record {
+      max-distance = max-distance-alike a a′ b b′ p y q z;
+      fully-within = λ d w. fully-within-alike a a′ b b′ p y q z w d;
+      longest-line = longest-line-alike a a′ b b′ p y q z;
+      least-distance = distance-alike a a′ b b′ p y q z;
+      is-within = λ d w. within-alike a a′ b b′ p y q z w d;
+      intersection = intersects-alike a a′ b b′ p y q z;
+      closest-point = closest-point-alike a a′ b b′ p y q z;
+      shortest-line = shortest-line-alike a a′ b b′ p y q z;
+    }
+
+-- Blobs that differ on each side in what is ignored alone get the same report and output from every measuring operation.
+pub what-is-ignored : (a a′ b b′ : List ℕ) → SameButIgnored a a′ → SameButIgnored b b′ → PairsAnsweredAlike a b a′ b′
+what-is-ignored a a′ b b′ p q =
+    pairs-answered-alike a a′ b b′ (ignored-measured-alike a a′ p) (ignored-same-z-test a a′ p) (ignored-measured-alike b b′ q) (ignored-same-z-test b b′ q)

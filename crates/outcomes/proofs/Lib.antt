@@ -7,3 +7,4 @@ pub mod RefusedExactly
 pub mod OwnSrid
 pub mod FirstExtremeLine
 pub mod Alike
+pub mod WithoutM
