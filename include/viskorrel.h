@@ -17,9 +17,10 @@
  * WORKSPACES
  *
  * A blob is read into a workspace: floats1 and table1 for a, floats2 and table2 for b. A blob of N coordinates in R runs (points, lines
- * and rings with at least one coordinate) takes the first 3N floats, x, y, z of each coordinate, and the first 2R numbers of the table,
- * kind and count of each run. viskorrel_sizes gives both lengths. The rest stays unchanged; what the workspace held before does not matter.
- * Every call that is not refused fills the workspaces, also where it answers nothing.
+ * and rings with at least one coordinate) takes the first 4N floats, x, y, z, m of each coordinate, and the first 2R numbers of the table,
+ * kind and count of each run. A z or m that the encoding does not have is 0 (+0). viskorrel_sizes gives both lengths. The rest stays
+ * unchanged; what the workspace held before does not matter. Every call that is not refused fills the workspaces, also where it answers
+ * nothing. No distance, line or point depends on m, which may be NaN: a vertex is x, y and z.
  *
  * REFUSALS
  *
@@ -53,7 +54,7 @@
 #include <stddef.h>
 #include <stdint.h>
 
-#define VISKORREL_VERSION "0.2.2"
+#define VISKORREL_VERSION "0.3.0"
 
 #ifdef __cplusplus
 extern "C" {
@@ -95,9 +96,10 @@ typedef struct viskorrel_pair {
 viskorrel_pair viskorrel_sizes(const uint8_t *blob, size_t length);
 
 /*
- * The coordinates and runs of a blob, read into a workspace as every operation does: first is how many floats were filled, 3N, second
- * how many numbers of the table, 2R. The kind of a run is 1 for a point, 2 for a line, 3 for a ring, 17 for a triangle's ring. The blob
- * needs no Z: one that it does not have is 0. The outcome is never nothing.
+ * The coordinates and runs of a blob, read into a workspace as every operation does: first is how many floats were filled, 4N (x, y, z, m
+ * of each coordinate), second how many numbers of the table, 2R. The kind of a run is 1 for a point, 2 for a line, 3 for a ring, 17 for a
+ * triangle's ring. The blob needs neither Z nor M: what it does not have is 0. Whether it has M is told by its type, not by what is read: an
+ * m of 0 may be the blob's own. The outcome is never nothing.
  * Lent: the blob, a workspace for it. Changed: the workspace. Refusals: 3 to 12, 15.
  */
 viskorrel_pair viskorrel_read(

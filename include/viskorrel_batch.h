@@ -74,7 +74,8 @@ int viskorrel_batch(
 
 /*
  * BOXES. Six numbers for each blob: least x, y, z, greatest x, y, z of its coordinates. A blob that is refused, has a ring, neither point nor
- * segment, or a coordinate above 1e30 in size gets the box of everything (minus infinity to infinity), which is never passed over.
+ * segment, or an x, y or z that is NaN or above 1e30 in size gets the box of everything (minus infinity to infinity), which is never passed
+ * over. M is no part of a box.
  */
 int viskorrel_boxes(const viskorrel_blobs *blobs, double *boxes);
 

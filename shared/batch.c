@@ -108,6 +108,8 @@ EXPORTED viskorrel_reply viskorrel_blob_refusal(const uint8_t *blob, size_t leng
  * G (1 - 9 u) - 21 u M: where G is above reach = least (1 + 2^-40) + 2^-40 M, it is above the least, with hundreds of times to spare over the
  * roundings here. No number is above 1e30 in size, so nothing overflows and no distance is NaN; what underflows is below 2^-500, and reach has 2^-400 for it.
  */
+#define COORDINATE 4 /* floats of a workspace: x, y, z, m */
+#define AXES 3
 #define LARGEST 1e30
 #define MARGIN 9.094947017729282e-13 /* 2^-40 */
 #define TINY 3.872591914849318e-121  /* 2^-400 */
@@ -122,7 +124,7 @@ static void everything(double *box)
     }
 }
 
-/* The box of a blob that was read into a workspace; 0 where it has none. */
+/* The box of a blob that was read into a workspace; 0 where it has none. A coordinate is x, y, z, m, and m is no place: it bounds nothing. */
 static int span(const struct side *side, double *box)
 {
     viskorrel_pair sizes = viskorrel_sizes(side->blob, side->length);
@@ -138,14 +140,17 @@ static int span(const struct side *side, double *box)
             measurable = 1;
     }
     for (k = 0; k < sizes.first; k++) {
+        size_t axis = k % COORDINATE;
         double number = floats[k];
 
+        if (axis >= AXES)
+            continue;
         if (!(fabs(number) <= LARGEST))
             return 0;
-        if (k < 3 || number < box[k % 3])
-            box[k % 3] = number;
-        if (k < 3 || number > box[k % 3 + 3])
-            box[k % 3 + 3] = number;
+        if (k < AXES || number < box[axis])
+            box[axis] = number;
+        if (k < AXES || number > box[axis + AXES])
+            box[axis + AXES] = number;
     }
     return measurable;
 }

@@ -15,7 +15,7 @@ from ._operations import (
     max_distance, patch, patches, read, refusal, shortest_line, sizes)
 from ._refusal import Refusal
 
-__version__ = "0.2.2"
+__version__ = "0.3.0"
 
 __all__ = [
     "Blobs", "LibraryMissing", "Nearest", "NoSurface", "Refusal", "batch", "closest_point", "dfully_within", "distance", "dwithin", "intersects",

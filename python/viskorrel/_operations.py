@@ -7,6 +7,7 @@ from ._library import ANSWERED, LINE_BYTES, NO_SURFACE, POINT_BYTES, REFUSED, li
 from ._refusal import Refusal
 
 TOO_SHORT = 15  # the refusal of a workspace
+COORDINATE, RUN = 4, 2  # what each takes of a workspace: x, y, z, m; kind and count
 
 
 class Memory(threading.local):
@@ -14,8 +15,8 @@ class Memory(threading.local):
 
     def __init__(self):
         self.sides = [None, None]
-        self.lend(0, 3, 2)
-        self.lend(1, 3, 2)
+        self.lend(0, COORDINATE, RUN)
+        self.lend(1, COORDINATE, RUN)
         self.output = ctypes.create_string_buffer(LINE_BYTES)
 
     def lend(self, side, floats, table):
@@ -150,9 +151,10 @@ def refusal(geometry):
 
 
 def read(geometry):
-    """The points, lines and rings of a geometry with Z, as the library reads them: a list of (kind, vertices).
+    """The points, lines and rings of a geometry with Z, as the library reads them: a list of (kind, coordinates).
 
-    kind is 1 for a point, 2 for a line, 3 for a polygon's ring, 17 for a triangle's; a vertex is (x, y, z).
+    kind is 1 for a point, 2 for a line, 3 for a polygon's ring, 17 for a triangle's; a coordinate is (x, y, z, m), m being 0.0 where the
+    geometry has no M. It may be NaN, and no measure depends on it.
     """
     geometry = blob(geometry)
     refused = refusal(geometry)  # a geometry without Z could be read, with heights of 0 that nobody measured
@@ -161,16 +163,16 @@ def read(geometry):
     filled = ask("viskorrel_read", (geometry,))
     floats, table = MEMORY.sides[0]
     runs, at = [], 0
-    for place in range(0, filled.second, 2):
-        kind, count = table[place:place + 2]
-        ordinates = floats[at:at + 3 * count]
-        runs.append((kind, list(zip(ordinates[0::3], ordinates[1::3], ordinates[2::3]))))
-        at += 3 * count
+    for place in range(0, filled.second, RUN):
+        kind, count = table[place:place + RUN]
+        ordinates = floats[at:at + COORDINATE * count]
+        runs.append((kind, list(zip(*(ordinates[axis::COORDINATE] for axis in range(COORDINATE))))))
+        at += COORDINATE * count
     return runs
 
 
 def sizes(geometry):
-    """The lengths of the workspace that a geometry takes: floats (three for each coordinate) and numbers (two for each run)."""
+    """The lengths of the workspace that a geometry takes: floats (four for each coordinate) and numbers (two for each run)."""
     pair = ask_of("viskorrel_sizes", blob(geometry))
     return pair.first, pair.second
 

@@ -38,7 +38,7 @@ pub const VERSION: &str = env!("CARGO_PKG_VERSION");
 /// What a blob takes of a workspace, counted in elements.
 #[derive(Clone, Copy, Debug, PartialEq, Eq)]
 pub struct Sizes {
-    /// Three for each coordinate.
+    /// Four for each coordinate: x, y, z, m.
     pub floats: usize,
     /// Two for each point, line and ring that has a coordinate.
     pub table: usize,
@@ -47,7 +47,7 @@ pub struct Sizes {
 /// A blob's coordinates and runs, in the order of its bytes.
 #[derive(Clone, Debug, PartialEq)]
 pub struct Read {
-    /// x, y, z of each coordinate. A Z that the blob does not have is 0.
+    /// x, y, z, m of each coordinate. A Z or M that the blob does not have is 0; M may be NaN, and no measure depends on it.
     pub floats: Vec<f64>,
     /// Kind and number of coordinates of each run: of each point (1), line (2), ring (3) and triangle's ring (17) that has one.
     pub table: Vec<u32>,

@@ -143,15 +143,15 @@ mod tests {
         let mut measurer = Measurer::new();
         assert_eq!(measurer.st_3d_distance(&small, &large), Ok(Some(3.0)));
         let first = lent(&measurer);
-        assert_eq!((first[0].0, first[0].2), (6, 2));
-        assert_eq!((first[1].0, first[1].2), (1500, 2));
+        assert_eq!((first[0].0, first[0].2), (8, 2));
+        assert_eq!((first[1].0, first[1].2), (2000, 2));
         // nothing larger comes: the same memory, unmoved
         assert_eq!(measurer.st_3d_distance(&small, &small), Ok(Some(0.0)));
         assert_eq!(measurer.st_3d_distance(&small, &large), Ok(Some(3.0)));
         assert_eq!(lent(&measurer), first);
         // a larger one comes on side 1: only that side is grown
         assert_eq!(measurer.st_3d_distance(&large, &small), Ok(Some(3.0)));
-        assert_eq!(lent(&measurer)[0].0, 1500);
+        assert_eq!(lent(&measurer)[0].0, 2000);
         assert_eq!(lent(&measurer)[1], first[1]);
     }
 

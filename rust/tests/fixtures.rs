@@ -128,11 +128,11 @@ fn f14_levels() {
 
 #[test]
 fn sizes_of_blobs() {
-    assert_eq!(sizes(&point(O)), Ok(Sizes { floats: 3, table: 2 }));
+    assert_eq!(sizes(&point(O)), Ok(Sizes { floats: 4, table: 2 }));
     assert_eq!(sizes(&line(&[])), Ok(Sizes { floats: 0, table: 0 }));
-    assert_eq!(sizes(&polygon(&[&[O; 4], &[], &[O; 5]])), Ok(Sizes { floats: 27, table: 4 }));
+    assert_eq!(sizes(&polygon(&[&[O; 4], &[], &[O; 5]])), Ok(Sizes { floats: 36, table: 4 }));
     // a blob without Z has sizes too
-    assert_eq!(sizes(&[[1, 1, 0, 0, 0].to_vec(), vec![0; 16]].concat()), Ok(Sizes { floats: 3, table: 2 }));
+    assert_eq!(sizes(&[[1, 1, 0, 0, 0].to_vec(), vec![0; 16]].concat()), Ok(Sizes { floats: 4, table: 2 }));
 }
 
 #[test]
