@@ -13,6 +13,8 @@ pub enum Op {
     Interpolate,
     Patch,
     Sizes,
+    /// Not among the records, whose operations are those before it.
+    Read,
 }
 
 pub const POINT_LENGTH: usize = 37;
@@ -20,7 +22,7 @@ pub const LINE_LENGTH: usize = 65;
 
 impl Op {
     /// Those on two blobs stand first.
-    pub const ALL: [Op; 11] = [
+    pub const ALL: [Op; 12] = [
         Op::Distance,
         Op::MaxDistance,
         Op::DWithin,
@@ -32,6 +34,7 @@ impl Op {
         Op::Interpolate,
         Op::Patch,
         Op::Sizes,
+        Op::Read,
     ];
     pub const TWO_BLOBS: &[Op] = Op::ALL.split_at(8).0;
     pub const ONE_BLOB: &[Op] = Op::ALL.split_at(8).1;
@@ -49,6 +52,7 @@ impl Op {
             Op::Interpolate => "line_interpolate_point",
             Op::Patch => "patch",
             Op::Sizes => "sizes",
+            Op::Read => "read",
         }
     }
 
@@ -72,7 +76,7 @@ impl Op {
     /// How many sides lend a workspace.
     pub fn workspaces(self) -> usize {
         match self {
-            Op::Interpolate => 1,
+            Op::Interpolate | Op::Read => 1,
             Op::Patch | Op::Sizes => 0,
             _ => 2,
         }

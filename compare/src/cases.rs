@@ -2,7 +2,7 @@
 
 use crate::call::{Call, Lent, Op};
 use crate::encode::{self, Geometry, SRID_FLAG, Style, Z_FLAG, put_u32};
-use crate::oracle::Side;
+use crate::oracle::{Read, Side};
 use crate::random::Random;
 use crate::shapes::{self, Field};
 use original::functions::threed_metric::inside::{closest_of, farthest_of};
@@ -15,14 +15,14 @@ pub struct Case {
     pub ops: &'static [Op],
 }
 
-const READING: &[Op] = &[Op::Distance, Op::LongestLine, Op::Interpolate, Op::Patch, Op::Sizes];
+const READING: &[Op] = &[Op::Distance, Op::LongestLine, Op::Interpolate, Op::Patch, Op::Sizes, Op::Read];
 const SECOND: &[Op] = &[Op::Distance, Op::ShortestLine];
 
 /// What is lent: enough, exactly enough, or too little by one or more in one place.
 fn lent(op: Op, a: &Side, b: &Side, random: &mut Random) -> Lent {
     let mut lent = Lent::default();
     for (i, side) in [a, b].into_iter().enumerate() {
-        let (floats, numbers) = side.read.as_ref().map_or((6, 4), |r| (r.floats.len(), r.numbers.len()));
+        let (floats, numbers) = side.read.as_ref().map_or((8, 4), Read::lengths);
         (lent.floats[i], lent.numbers[i]) = (floats, numbers);
     }
     lent.output = op.output().unwrap_or(0);
@@ -36,7 +36,11 @@ fn lent(op: Op, a: &Side, b: &Side, random: &mut Random) -> Lent {
         let [n1, n2] = &mut lent.numbers;
         for place in [f1, f2, n1, n2, &mut lent.output] {
             if random.chance(30) {
-                *place = if random.chance(80) { place.saturating_sub(1) } else { random.below(*place + 1) };
+                *place = match random.below(10) {
+                    0..=6 => place.saturating_sub(1),
+                    7 => *place / 4 * 3, // of floats: what x, y and z alone take
+                    _ => random.below(*place + 1),
+                };
             }
         }
     }
@@ -368,7 +372,8 @@ pub fn drawn(random: &mut Random, run: &mut dyn FnMut(Case)) {
             if random.chance(10) {
                 a = damaged(a, random);
             }
-            const OPS: &[Op] = &[Op::Interpolate, Op::Interpolate, Op::Interpolate, Op::Interpolate, Op::Sizes];
+            const OPS: &[Op] =
+                &[Op::Interpolate, Op::Interpolate, Op::Interpolate, Op::Interpolate, Op::Sizes, Op::Read];
             run(Case { class: "interpolation", a, b: Vec::new(), ops: OPS });
         }
         _ => {
@@ -376,7 +381,7 @@ pub fn drawn(random: &mut Random, run: &mut dyn FnMut(Case)) {
             if random.chance(50) {
                 a = damaged(a, random);
             }
-            const OPS: &[Op] = &[Op::Patch, Op::Patch, Op::Patch, Op::Patch, Op::Sizes];
+            const OPS: &[Op] = &[Op::Patch, Op::Patch, Op::Patch, Op::Patch, Op::Sizes, Op::Read];
             run(Case { class: "surfaces", a, b: Vec::new(), ops: OPS });
         }
     }

@@ -4,7 +4,7 @@ use original::functions::threed_metric::inside::{Parts, Point};
 
 use crate::call::Call;
 use crate::library::{self, Memory, Returned, Slice};
-use crate::oracle::{Answer, Expected, Side};
+use crate::oracle::{Answer, Expected, FLOATS_PER_COORDINATE, Read, Side};
 
 /// The same number, the zero's sign included; any NaN is the same as another.
 fn same(x: f64, y: f64) -> bool {
@@ -15,18 +15,41 @@ fn all_same(x: &[f64], y: &[f64]) -> bool {
     x.len() == y.len() && x.iter().zip(y).all(|(x, y)| same(*x, *y))
 }
 
+/// The first three of each four floats, a vertex.
+fn places_held(floats: &[f64]) -> Vec<Point> {
+    floats.chunks_exact(FLOATS_PER_COORDINATE).map(|c| [c[0], c[1], c[2]]).collect()
+}
+
+/// The fourth of each four floats.
+fn m_held(floats: &[f64]) -> Vec<f64> {
+    floats.chunks_exact(FLOATS_PER_COORDINATE).map(|c| c[3]).collect()
+}
+
+/// What a workspace's floats and numbers have that they must not have: x, y, z and the runs by the original, m by the
+/// blob's bytes.
+fn held_wrongly(floats: &[f64], numbers: &[u32], read: &Read) -> Option<String> {
+    let (places, m) = (places_held(floats), m_held(floats));
+    let own: Vec<f64> = read.m.iter().map(|m| m.unwrap_or(0.0)).collect();
+    if numbers != read.numbers || !all_same(places.as_flattened(), read.places.as_flattened()) {
+        return Some(format!("holds {places:?} {numbers:?}, the original {:?} {:?}", read.places, read.numbers));
+    }
+    if !all_same(&m, &own) {
+        return Some(format!("holds m {m:?}, the blob {own:?}"));
+    }
+    (!same_parts(&parts_held(&places, numbers), &read.parts)).then(|| format!("has other parts than {:?}", read.parts))
+}
+
 /// The parts of a workspace, by the document's rule.
-fn parts_held(floats: &[f64], numbers: &[u32]) -> Parts {
+fn parts_held(places: &[Point], numbers: &[u32]) -> Parts {
     let mut parts = Parts::default();
-    let mut left = floats;
+    let mut left = places;
     for run in numbers.chunks_exact(2) {
-        let (own, rest) = left.split_at(3 * run[1] as usize);
+        let (points, rest) = left.split_at(run[1] as usize);
         left = rest;
-        let points: Vec<Point> = own.chunks_exact(3).map(|p| [p[0], p[1], p[2]]).collect();
         match run[0] {
             1 => parts.points.extend(points),
             2 => parts.segments.extend(points.windows(2).map(|p| (p[0], p[1]))),
-            _ => parts.faces.push(points),
+            _ => parts.faces.push(points.to_vec()),
         }
     }
     parts
@@ -63,16 +86,12 @@ pub fn check(call: &Call, expected: &Expected, sides: [&Side; 2], turn: usize) -
     for side in 0..2 {
         let used = if accepted && side < call.op.workspaces() { sides[side].read.as_ref().ok() } else { None };
         let (floats, numbers) = (&memory.floats[side], &memory.numbers[side]);
+        let (n, k) = used.map_or((0, 0), Read::lengths);
         if let Some(read) = used {
-            let (held, table) = (floats.split(read.floats.len()).0, numbers.split(read.numbers.len()).0);
-            if table != read.numbers || !all_same(held, &read.floats) {
-                return Some(format!("workspace {} holds {held:?} {table:?}", side + 1));
-            }
-            if !same_parts(&parts_held(held, table), &read.parts) {
-                return Some(format!("workspace {} has other parts than {:?}", side + 1, read.parts));
+            if let Some(what) = held_wrongly(floats.split(n).0, numbers.split(k).0, read) {
+                return Some(format!("workspace {} {what}", side + 1));
             }
         }
-        let (n, k) = used.map_or((0, 0), |read| (read.floats.len(), read.numbers.len()));
         if changed(floats, &before.floats[side], n, f64::to_bits)
             || changed(numbers, &before.numbers[side], k, u64::from)
         {

@@ -50,8 +50,9 @@ impl Style {
             0 => Style::PLAIN,
             1 => Style { orders: true, dims: true, codes: true, srids: true },
             _ => {
+                let dims = random.chance(75); // M in a good share of the coordinates
                 let mut draw = || random.chance(50);
-                Style { orders: draw(), dims: draw(), codes: draw(), srids: draw() }
+                Style { orders: draw(), dims, codes: draw(), srids: draw() }
             }
         }
     }
@@ -108,7 +109,9 @@ fn put_run(out: &mut Vec<u8>, big: bool, dims: Dims, run: &[Ordinates]) {
 fn put(out: &mut Vec<u8>, g: &Geometry, style: Style, top: bool, random: &mut Random) {
     let big = style.orders && random.chance(50);
     let mut dims = if style.dims { random.pick(&ALL_DIMS) } else { Dims::Xyz };
-    if top && !matches!(dims, Dims::Xyz | Dims::Xyzm) && random.chance(90) {
+    // Passes the top Z test and is walked as XYM.
+    let flagged_xym = top && dims == Dims::Xym && random.chance(30);
+    if top && !flagged_xym && !matches!(dims, Dims::Xyz | Dims::Xyzm) && random.chance(90) {
         dims = random.pick(&[Dims::Xyz, Dims::Xyzm]);
     }
     let kind = match g {
@@ -116,7 +119,7 @@ fn put(out: &mut Vec<u8>, g: &Geometry, style: Style, top: bool, random: &mut Ra
         Geometry::Line(_) => 2,
         Geometry::Rings(kind, _) | Geometry::Collection(kind, _) => *kind,
     };
-    let mut code = code(kind, dims, style, random);
+    let mut code = if flagged_xym { (kind + 2000) | Z_FLAG } else { code(kind, dims, style, random) };
     let srid = style.srids && random.chance(if top { 50 } else { 15 });
     if srid {
         code |= SRID_FLAG;

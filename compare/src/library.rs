@@ -97,6 +97,7 @@ pub fn run(call: &Call, memory: &mut Memory) -> Returned {
             Op::Interpolate => viskorrel_3d_line_interpolate_point(a, al, x, f1, f1l, t1, t1l, o, ol),
             Op::Patch => return returned_pair(viskorrel_patch(a, al, call.index), Returned::Part),
             Op::Sizes => return returned_pair(viskorrel_sizes(a, al), Returned::Lengths),
+            Op::Read => return returned_pair(viskorrel_read(a, al, f1, f1l, t1, t1l), Returned::Lengths),
         }
     };
     returned(call.op, reply)

@@ -8,6 +8,7 @@ mod cases;
 mod check;
 mod encode;
 mod library;
+mod m;
 mod oracle;
 mod random;
 mod records;
@@ -35,6 +36,29 @@ struct Report {
     refusals: BTreeMap<(u32, u32), usize>,
     sources: BTreeMap<Source, usize>,
     disagreements: BTreeMap<Op, usize>,
+    held: Held,
+}
+
+/// Coordinates of the workspaces that were compared, and what their m was.
+#[derive(Default)]
+struct Held {
+    coordinates: usize,
+    with_m: usize,
+    nan: usize,
+    minus_zero: usize,
+    subnormal: usize,
+}
+
+impl Held {
+    fn count(&mut self, m: &[Option<f64>]) {
+        self.coordinates += m.len();
+        for m in m.iter().flatten() {
+            self.with_m += 1;
+            self.nan += usize::from(m.is_nan());
+            self.minus_zero += usize::from(m.to_bits() == 1 << 63);
+            self.subnormal += usize::from(m.is_subnormal());
+        }
+    }
 }
 
 fn outcome(answer: &Answer) -> String {
@@ -55,8 +79,13 @@ fn outcome(answer: &Answer) -> String {
 }
 
 impl Report {
-    fn count(&mut self, class: &'static str, op: Op, expected: &Expected) {
+    fn count(&mut self, class: &'static str, op: Op, expected: &Expected, sides: [&Side; 2]) {
         self.calls += 1;
+        if !matches!(expected.answer, Answer::Refused(..)) {
+            for read in sides.iter().take(op.workspaces()).flat_map(|side| &side.read) {
+                self.held.count(&read.m);
+            }
+        }
         *self.classes.entry(class).or_default() += 1;
         let label = match expected.answer {
             Answer::Refused(number, side) => {
@@ -100,6 +129,9 @@ impl Report {
         for source in Source::ALL {
             println!("  {:56}{:9}", source.name(), self.sources.get(&source).unwrap_or(&0));
         }
+        let Held { coordinates, with_m, nan, minus_zero, subnormal } = self.held;
+        println!("coordinates of compared workspaces: {coordinates}, of them with an m of their own: {with_m}");
+        println!("  (NaN {nan}, -0 {minus_zero}, subnormal {subnormal})");
         for (op, n) in &self.disagreements {
             println!("disagreements of {}: {n}", op.name());
         }
@@ -137,7 +169,7 @@ fn compare(least: usize, seed: u64, samples: &[Vec<u8>]) -> bool {
         let sides = [&Side::new(&case.a), &Side::new(&case.b)];
         for call in case.calls(sides[0], sides[1], numbers) {
             let expected = oracle::expected(&call, sides[0], sides[1]);
-            report.count(case.class, call.op, &expected);
+            report.count(case.class, call.op, &expected, sides);
             if let Some(what) = check::check(&call, &expected, sides, report.calls) {
                 report.disagree(case.class, &call, &what);
             }

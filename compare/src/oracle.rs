@@ -6,9 +6,10 @@ use std::panic::{AssertUnwindSafe, catch_unwind};
 use original::error::Error;
 use original::functions::surface::inside::patch_ranges;
 use original::functions::threed_metric as rust;
-use rust::inside::{self, Parts};
+use rust::inside::{self, Parts, Point};
 
 use crate::call::{Call, Op};
+use crate::m;
 
 thread_local! {
     /// A panic of the original is an answer.
@@ -33,23 +34,41 @@ pub struct Side {
     pub srid: i32,
 }
 
+/// What the workspace holds.
 #[derive(Debug)]
 pub struct Read {
     pub parts: Parts,
-    /// What the workspace holds: x, y, z of each coordinate; kind and count of each run.
-    pub floats: Vec<f64>,
+    /// x, y, z of each coordinate, as the original reads them.
+    pub places: Vec<Point>,
+    /// m of each coordinate, from the blob's bytes.
+    pub m: Vec<Option<f64>>,
+    /// Kind and count of each run.
     pub numbers: Vec<u32>,
 }
+
+impl Read {
+    /// The floats of the workspace: x, y, z, m of each coordinate, 0 for an m that the encoding does not have.
+    pub fn floats(&self) -> Vec<f64> {
+        self.places.iter().zip(&self.m).flat_map(|([x, y, z], m)| [*x, *y, *z, m.unwrap_or(0.0)]).collect()
+    }
+
+    /// How many floats and numbers it takes.
+    pub fn lengths(&self) -> (usize, usize) {
+        (FLOATS_PER_COORDINATE * self.places.len(), self.numbers.len())
+    }
+}
+
+/// x, y, z, m.
+pub const FLOATS_PER_COORDINATE: usize = 4;
 
 impl Side {
     pub fn new(blob: &[u8]) -> Side {
         let read = inside::parts_of(blob).map(|parts| {
             let runs = inside::runs_of(blob).expect("the same walk");
-            Read {
-                parts,
-                floats: runs.iter().flat_map(|(_, run)| run.iter().flatten().copied()).collect(),
-                numbers: runs.iter().flat_map(|(kind, run)| [*kind, run.len() as u32]).collect(),
-            }
+            let places: Vec<Point> = runs.iter().flat_map(|(_, run)| run).copied().collect();
+            let m = m::of_coordinates(blob);
+            assert_eq!(m.len(), places.len(), "the reader of m meets other coordinates than the original");
+            Read { parts, places, m, numbers: runs.iter().flat_map(|(kind, run)| [*kind, run.len() as u32]).collect() }
         });
         Side { has_z: inside::has_z(blob), read, srid: inside::srid(blob).unwrap_or(0) }
     }
@@ -188,7 +207,7 @@ fn two_blobs(call: &Call, a: &Side, b: &Side) -> Answer {
         }
         Op::ShortestLine => rust::st_3d_shortest_line(x, y).map(line),
         Op::LongestLine => rust::st_3d_longest_line(x, y).map(line),
-        Op::Interpolate | Op::Patch | Op::Sizes => unreachable!("takes one blob"),
+        Op::Interpolate | Op::Patch | Op::Sizes | Op::Read => unreachable!("takes one blob"),
     };
     said.unwrap_or_else(|e| match number_of(&e) {
         Some(1) => Answer::Refused(1, 0),
@@ -241,7 +260,8 @@ fn patch(call: &Call) -> Answer {
 fn lent_too_little(call: &Call, sides: [&Side; 2]) -> Option<Answer> {
     for (i, side) in sides.into_iter().enumerate().take(call.op.workspaces()) {
         let read = side.read.as_ref().expect("accepted");
-        if call.lent.floats[i] < read.floats.len() || call.lent.numbers[i] < read.numbers.len() {
+        let (floats, numbers) = read.lengths();
+        if call.lent.floats[i] < floats || call.lent.numbers[i] < numbers {
             return Some(Answer::Refused(15, i as u32 + 1));
         }
     }
@@ -265,8 +285,8 @@ pub fn expected(call: &Call, a: &Side, b: &Side) -> Expected {
     let said = match call.op {
         Op::Interpolate => interpolated(call, a),
         Op::Patch => Expected { answer: patch(call), source: Source::Original },
-        Op::Sizes => {
-            let lengths = |r: &Read| Answer::Lengths(r.floats.len(), r.numbers.len());
+        Op::Sizes | Op::Read => {
+            let lengths = |r: &Read| Answer::Lengths(r.lengths().0, r.lengths().1);
             let answer = a.read.as_ref().map_or_else(|e| refused(e, 1), lengths);
             Expected { answer, source: Source::Original }
         }

@@ -12,7 +12,8 @@
 //!     u64 x 2   the answered number's pattern and 0; or a part's start and end; or the lengths to lend
 //!     bytes     a; b; expected output; floats held on side 1 as u64 patterns; its numbers as u32; the same of side 2
 //!
-//! A NaN is 7FF8000000000000: any NaN in a workspace or an answered number agrees with it.
+//! The floats held are x, y, z of the original and m of the blob's own bytes, 0 where it has none. A NaN is
+//! 7FF8000000000000: any NaN in a workspace or an answered number agrees with it.
 
 use std::collections::BTreeMap;
 use std::fs;
@@ -21,10 +22,12 @@ use std::path::Path;
 use crate::call::{Call, Op};
 use crate::oracle::{Answer, Expected, Side, Source};
 
-/// The most bytes of a file, so that a program can hold it whole.
-const FILE_LENGTH: usize = 1 << 20;
+/// The most bytes of a file: `replay` holds it whole.
+const FILE_LENGTH: usize = 1 << 18;
 /// The most bytes of a record.
 const RECORD_LENGTH: usize = 1200;
+/// The most floats and numbers that `replay` can lend a side.
+const LENT: (usize, usize) = (256, 64);
 
 #[derive(Default)]
 pub struct Records {
@@ -61,9 +64,9 @@ fn record(call: &Call, expected: &Expected, sides: [&Side; 2]) -> Vec<u8> {
     let mut held = Vec::new();
     for (i, side) in sides.into_iter().enumerate() {
         let read = if i < workspaces && case != 2 { side.read.as_ref().ok() } else { None };
-        words.extend(read.map_or([0, 0], |r| [r.floats.len() as u32, r.numbers.len() as u32]));
+        words.extend(read.map_or([0, 0], |r| [r.lengths().0 as u32, r.lengths().1 as u32]));
         if let Some(read) = read {
-            held.extend(read.floats.iter().flat_map(|x| pattern(*x).to_le_bytes()));
+            held.extend(read.floats().iter().flat_map(|x| pattern(*x).to_le_bytes()));
             held.extend(read.numbers.iter().flat_map(|n| n.to_le_bytes()));
         }
     }
@@ -81,7 +84,10 @@ fn record(call: &Call, expected: &Expected, sides: [&Side; 2]) -> Vec<u8> {
 impl Records {
     /// Takes the call in, unless enough of its sort are there.
     pub fn offer(&mut self, class: &'static str, outcome: String, call: &Call, expected: &Expected, sides: [&Side; 2]) {
-        if matches!(expected.source, Source::StopsEarly | Source::Panics) {
+        if matches!(expected.source, Source::StopsEarly | Source::Panics) || call.op == Op::Read {
+            return;
+        }
+        if call.lent.floats.iter().any(|n| *n > LENT.0) || call.lent.numbers.iter().any(|n| *n > LENT.1) {
             return;
         }
         let enough = if matches!(expected.answer, Answer::Refused(..)) { 5 } else { 25 };

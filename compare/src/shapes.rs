@@ -95,7 +95,7 @@ impl Field {
     }
 
     pub fn vertex(self, random: &mut Random) -> Ordinates {
-        let m = random.unit();
+        let m = any_m(random);
         if let Field::Permuted([p, q, r]) = self {
             let [x, y, z] = random.pick(&[[p, q, r], [p, r, q], [q, p, r], [q, r, p], [r, p, q], [r, q, p]]);
             let mut sign = |v: f64| if random.chance(30) { -v } else { v };
@@ -112,6 +112,24 @@ impl Field {
             run.push(if again { random.pick(&run) } else { self.vertex(random) });
         }
         run
+    }
+}
+
+/// An hour of passage, or a number that would show in an answer that it entered: NaN of several payloads, infinities,
+/// zeros of both signs, subnormal and huge numbers, any pattern.
+pub fn any_m(random: &mut Random) -> f64 {
+    match random.below(8) {
+        0 | 1 => random.pick(&SPECIAL),
+        2 => f64::from_bits(random.pick(&[
+            0x7FF0_0000_0000_0001,
+            0xFFF8_0000_0000_0000,
+            u64::MAX,
+            0x800F_FFFF_FFFF_FFFF,
+            1 << 63,
+        ])),
+        3 => f64::from_bits(random.bits()),
+        4 => random.range(-3, 3) as f64,
+        _ => random.unit() * 9000.0,
     }
 }
 
@@ -222,7 +240,7 @@ pub fn nested(inner: Geometry, depth: usize, random: &mut Random) -> Geometry {
 pub fn overshoot(random: &mut Random) -> (Geometry, Geometry) {
     let axis = random.below(3);
     let on_axis = |x: f64, random: &mut Random| {
-        let mut p = [0.0; 4];
+        let mut p = [0.0, 0.0, 0.0, any_m(random)];
         p[axis] = x;
         if random.chance(10) {
             p[(axis + 1) % 3] = random.range(-1, 1) as f64;
