@@ -37,15 +37,17 @@ class Group(Counted):
     def __init__(self, name):
         self.name, self.dents, self.welds, self.chainage, self.warnings = name, [], [], None, []
         self.width = self.start = self.end = None  # the longest line, from a dent to the weld: of a group that has a weld
+        self.passage = None                        # of the fix nearest to that line: of a dig, where there are fixes
 
 
 class DigList(Counted):
-    """In the order of the list. A dig is a group with a new dent; the others are quiet. `chainage`: whether there is a centreline."""
+    """In the order of the list. A dig is a group with a new dent; the others are quiet. `chainage`: whether there is a centreline;
+    `passages`: whether digs have one (dig/fixes.py)."""
 
     def __init__(self, groups, chainage):
         self.dents = [dent for group in groups for dent in group.dents]
         self.digs, self.quiet = [group for group in groups if group.new], [group for group in groups if not group.new]
-        self.chainage, self.warnings, self.stamp = chainage, [], None
+        self.chainage, self.passages, self.warnings, self.stamp = chainage, False, [], None
 
 
 def make(features, tolerance, chainage, box_test=True):

@@ -14,7 +14,7 @@ LINE = 2
 
 
 class Feature(namedtuple("Feature", "table id group blob runs label", defaults=[""])):
-    """`runs` are (kind, vertices), as the library read them; `label` is what the crew wrote."""
+    """`runs` are (kind, vertices), as the library read them, without M; `label` is what the crew wrote."""
     __slots__ = ()
 
     @property
@@ -96,7 +96,7 @@ class GeoPackage:
         return found[0] if found else None
 
     def features(self, table, group=None, label=None):
-        """The features of a table by id, each read by the library; and the faults, one line for each."""
+        """The features of a table by id, each read by the library; and the faults, one line for each. A feature at fault is left out."""
         column, srid = self.tables[table]
         keys = [row[1] for row in self.columns(table) if row[5]]
         if len(keys) != 1:
@@ -105,7 +105,7 @@ class GeoPackage:
         found, faults = [], []
         rows = self.file.execute(f"SELECT {', '.join(wanted)} FROM {quoted(table)} ORDER BY {quoted(keys[0])}")
         for id, blob, of_group, of_label in rows:
-            where = f"{table}, feature {id}"
+            where, told_before = f"{table}, feature {id}", len(faults)
             if not isinstance(blob, bytes):
                 faults.append(f"{where}: " + ("there is no geometry" if blob is None else "the geometry is no blob"))
                 continue
@@ -116,7 +116,7 @@ class GeoPackage:
                 if not said.isprintable():
                     faults.append(f"{where}: the {what} {said!r} has a character that cannot be printed")
             try:
-                runs = read(blob)
+                runs = [(kind, [coordinate[:3] for coordinate in run]) for kind, run in read(blob)]
             except Refusal as refused:
                 faults.append(f"{where}: {told(refused)}")
                 continue
@@ -127,7 +127,8 @@ class GeoPackage:
                 faults.append(f"{where}: the geometry is empty")
             elif not all(math.isfinite(number) for _, run in runs for vertex in run for number in vertex):
                 faults.append(f"{where}: a coordinate is NaN or infinite")
-            found.append(feature)
+            if len(faults) == told_before:
+                found.append(feature)
         return found, faults
 
 

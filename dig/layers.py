@@ -35,9 +35,10 @@ def write(path, made):
     try:
         corridor.empty(file, systems(made.systems))
         kind, *axes = made.kind
+        passages = [("hour_of_passage", "REAL"), ("fix_id", "INTEGER"), ("fix_distance", "REAL")] if listed.passages else []
         corridor.layer(file, LINES, "LINESTRING", srid, IDENTIFIER, [("dent_group", "TEXT"), ("chainage", "REAL"), ("width", "REAL"), ("dents", "INTEGER"),
-                                                                     ("new_dents", "INTEGER"), ("warnings", "TEXT")],
-                       [(blob(srid, line([dig.start, dig.end])), [dig.name, dig.chainage, dig.width, dig.count, dig.new, "; ".join(dig.warnings)],
+                                                                     ("new_dents", "INTEGER"), *passages, ("warnings", "TEXT")],
+                       [(blob(srid, line([dig.start, dig.end])), [dig.name, dig.chainage, dig.width, dig.count, dig.new, *passage(dig), "; ".join(dig.warnings)],
                          [dig.start, dig.end]) for dig in listed.digs])
         corridor.layer(file, DENTS, kind, srid, IDENTIFIER, [
             ("dent", "TEXT"), ("dent_id", "INTEGER"), ("dent_group", "TEXT"), ("chainage", "REAL"), ("state", "TEXT"), ("nearest_struck_off", "TEXT"),
@@ -50,6 +51,10 @@ def write(path, made):
         file.commit()
     finally:
         file.close()
+
+
+def passage(dig):
+    return [dig.passage.hour, dig.passage.fix.id, dig.passage.distance] if dig.passage else []
 
 
 def systems(rows):

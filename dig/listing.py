@@ -4,6 +4,7 @@ import re
 from dig.diglist import NEW
 
 WIDTH = "the longest line from all dents of the group, struck off or not, to its weld"
+PASSAGE = "the M of the fix that is nearest to that line, as the file has it"
 NUMBER = re.compile(r"-?\d+(\.\d+)?(e[+-]?\d+)?")
 
 
@@ -42,6 +43,15 @@ def state(dent):
     return f"{dent.state} (same as {dent.same_as.name})" if dent.same_as else dent.state
 
 
+def passage_heads(listed):
+    """The columns of the fix nearest to a dig; without fixes there are none."""
+    return ["hour of passage", "of fix", "fix distance m"] if listed.passages else []
+
+
+def passage(dig):
+    return [repr(dig.passage.hour), dig.passage.fix.id, f"{dig.passage.distance:.3f}"] if dig.passage else []
+
+
 def summary(listed):
     again = len(listed.dents) - listed.count
     repeated = f"; {counted(again, 'row')} not counted, the same dent again" if again else ""
@@ -59,11 +69,11 @@ def text(listed, tolerance):
     labelled = any(dent.feature.label for dent in listed.dents)
     heads, sides = ["dent", "group", "chainage m", "nearest struck-off", "distance m", "state"], "<<><><" if labelled else "><>>><"
     lines += aligned(*without_chainage(listed, heads, sides, table, 2))
-    lines += ["", f"DIGS (groups with a new dent; width: {WIDTH})"]
-    table = [[dig.name, way(dig.chainage), dig.count, dig.new, f"{dig.width:.3f}"] + [f"{number:.3f}" for number in dig.start + dig.end]
+    lines += ["", f"DIGS (groups with a new dent; width: {WIDTH}" + (f"; hour of passage: {PASSAGE})" if listed.passages else ")")]
+    table = [[dig.name, way(dig.chainage), dig.count, dig.new, f"{dig.width:.3f}"] + [f"{number:.3f}" for number in dig.start + dig.end] + passage(dig)
              for dig in listed.digs]
-    heads, sides = ["group", "chainage m", "dents", "new", "width m", "from dent x", "y", "z", "to weld x", "y", "z"], "<>>>>>>>>>>"
-    lines += aligned(*without_chainage(listed, heads, sides, table, 1))
+    heads = ["group", "chainage m", "dents", "new", "width m", "from dent x", "y", "z", "to weld x", "y", "z"] + passage_heads(listed)
+    lines += aligned(*without_chainage(listed, heads, "<" + ">" * (len(heads) - 1), table, 1))
     if listed.quiet:
         lines += ["", "NO DIG (every dent of the group is struck off)"]
         table = [[group.name, way(group.chainage), group.count] for group in listed.quiet]
@@ -105,18 +115,20 @@ def table(listed):
     groups = {group.name: group for group in listed.digs + listed.quiet}
     digging = {group.name for group in listed.digs}
     stamp = listed.stamp.columns()
+    passages = ["hour_of_passage", "fix_id", "fix_distance"] if listed.passages else []
     rows = [["dent", "id", "group", "chainage", "nearest_struck_off", "nearest_id", "distance", "state", "same_as", "dig_width",
-             "from_x", "from_y", "from_z", "to_x", "to_y", "to_z", "dig_chainage", "warnings", *(name for name, _ in stamp)]]
+             "from_x", "from_y", "from_z", "to_x", "to_y", "to_z", "dig_chainage", *passages, "warnings", *(name for name, _ in stamp)]]
     general = [line for line in listed.warnings if not any(line in thing.warnings for thing in listed.dents + list(groups.values()))]
     for dent in listed.dents:
         group = groups[dent.feature.group]
         dig = [repr(number) for number in (group.width, *group.start, *group.end)] if group.name in digging else [""] * 7
+        fix = [repr(group.passage.hour), group.passage.fix.id, repr(group.passage.distance)] if group.passage else [""] * len(passages)
         rows.append([
             dent_name(dent), dent.feature.id, group.name, shown(dent.chainage), nearest_name(dent), dent.nearest.id if dent.nearest else None,
-            shown(dent.distance), dent.state, dent.same_as.name if dent.same_as else None, *dig, shown(group.chainage),
+            shown(dent.distance), dent.state, dent.same_as.name if dent.same_as else None, *dig, shown(group.chainage), *fix,
             "; ".join(dent.warnings + group.warnings + general), *(value for _, value in stamp)])
     if not listed.dents:
-        rows.append([""] * 7 + ["no dents"] + [""] * 9 + ["; ".join(general), *(value for _, value in stamp)])
+        rows.append([""] * 7 + ["no dents"] + [""] * (9 + len(passages)) + ["; ".join(general), *(value for _, value in stamp)])
     return rows_to_csv(rows)
 
 

@@ -57,6 +57,7 @@ def parser():
     for role, names in ROLES.items():
         use = {"pipe": ", for chainage and picture", "fittings": ", only drawn"}.get(role, "")
         options.add_argument(f"--{role}", metavar="TABLE", help=f"default: {' or '.join(names)}{use}")
+    options.add_argument("--fixes", metavar="TABLE", help="a tracker's fixes, points with M: the list shows the M of the fix nearest to each dig")
     options.add_argument("--group", metavar="COLUMN", help=f"the group of dents and welds, default: {' or '.join(GROUP)}")
     options.add_argument("--label", metavar="COLUMN", help="what the crew calls a dent, default: its feature id")
     options.add_argument("--tolerance", metavar="METRES", type=metres, default=0.25, help="default: 0.25")
@@ -180,6 +181,8 @@ Made = namedtuple("Made", "list features chainage systems kind")
 
 def make(asked, package):
     tables = {role: package.find(role, getattr(asked, role), names, needed=role in MEASURED) for role, names in ROLES.items()}
+    if asked.fixes is not None:  # only where it is asked for: a table of that name may be something else
+        tables["fixes"] = package.find("fixes", asked.fixes, ["fixes"])
     apart(tables)
     groups = {role: package.group_column(tables[role], asked.group, GROUP) for role in ("dents", "welds")}
     labels = {role: package.label_column(tables[role], asked.label, role == "dents") for role in ("dents", "struck")}
@@ -187,8 +190,13 @@ def make(asked, package):
     system = package.metres(there, asked.metres)
     library = viskorrel.load(ready.library(asked.library))
     features, faults = {}, []
-    for role, table in tables.items():
+    for role in ROLES:
+        table = tables[role]
         features[role], found = package.features(table, groups.get(role), labels.get(role)) if table else ([], [])
+        faults += found
+    if "fixes" in tables:
+        from dig import fixes  # what a run does not need is not loaded
+        tracked, found = fixes.of(package, tables["fixes"])
         faults += found
     if faults:
         raise Problems(*faults)
@@ -196,6 +204,8 @@ def make(asked, package):
     if asked.pipe and not chainage.there():
         raise Problems(f"{tables['pipe']}: there is no line in it, so it is no centreline")
     listed = diglist.make(features, asked.tolerance, chainage, not asked.no_box_test)
+    if "fixes" in tables:
+        fixes.pass_by(listed, tracked, not asked.no_box_test)
     listed.warnings = package.opened.warnings + listed.warnings
     listed.stamp = stamp.of(package.opened, asked.tolerance, system, library.path)
     for line in listed.warnings:

@@ -4,7 +4,7 @@ import html
 from dig import picture
 from dig.diglist import NEW
 from dig.drawing import Frame, legend
-from dig.listing import WIDTH, digits, state, summary, way
+from dig.listing import PASSAGE, WIDTH, digits, passage, passage_heads, state, summary, way
 
 SHEET = 680         # pixels: 180 mm on paper
 CLOSE_UP = 420
@@ -78,9 +78,10 @@ def overview(made):
 
 
 def digs(listed):
-    content = [[dig.name, way(dig.chainage), dig.count, dig.new, f"{dig.width:.3f}", *place(dig.start), *place(dig.end)] for dig in listed.digs]
-    return f"<h2>Digs</h2><p>Groups with a new dent. The width is {text(WIDTH)}.</p>" + rows(
-        ["group", "chainage m", "dents", "new", "width m", "from dent x", "y", "z", "to weld x", "y", "z"], {0}, content)
+    content = [[dig.name, way(dig.chainage), dig.count, dig.new, f"{dig.width:.3f}", *place(dig.start), *place(dig.end), *passage(dig)] for dig in listed.digs]
+    hours = f" The hour of passage is {text(PASSAGE)}." if listed.passages else ""
+    return f"<h2>Digs</h2><p>Groups with a new dent. The width is {text(WIDTH)}.{hours}</p>" + rows(
+        ["group", "chainage m", "dents", "new", "width m", "from dent x", "y", "z", "to weld x", "y", "z", *passage_heads(listed)], {0}, content)
 
 
 def dents(heading, those, tolerance):
@@ -109,10 +110,17 @@ def sheet(listed, around, dig, number, tolerance):
     drawn = svg(SHEET, CLOSE_UP + 2, picture.close_up(around, dig, frame, f"sheet{number}"))
     way_there = f"chainage {way(dig.chainage)} m, " if dig.chainage is not None else ""
     return (f'<section class="sheet"><h2>Dig {text(dig.name)}</h2>'
-            f'<p class="facts">{way_there}<b>{dig.width:.3f} m wide</b>, {dig.new} of {dig.count} dents new</p>'
+            f'<p class="facts">{way_there}<b>{dig.width:.3f} m wide</b>, {dig.new} of {dig.count} dents new{passed(dig)}</p>'
             + warned(dig.warnings + list(dict.fromkeys(line for dent in dig.dents for line in dent.warnings)))
             + drawn + f"<p>Scale 1:{scale:g} on A4 (printed at 100 %); north of the grid is up.</p>"
             + stakes(dig) + dents("h3", dig.dents, tolerance) + stamped(listed) + "</section>")
+
+
+def passed(dig):
+    if not dig.passage:
+        return ""
+    hour, fix, distance = passage(dig)
+    return f", hour of passage <b>{text(hour)}</b> (fix {text(fix)}, {distance} m away)"
 
 
 def stakes(dig):
