@@ -85,6 +85,10 @@ typedef struct viskorrel_pair {
     size_t second;
 } viskorrel_pair;
 
+/* What a coordinate takes of the floats, x, y, z, m, and a run of the table, kind and count. */
+#define VISKORREL_COORDINATE_FLOATS 4
+#define VISKORREL_RUN_NUMBERS 2
+
 /* The bytes that a blob takes in the output. */
 #define VISKORREL_POINT_BYTES 37
 #define VISKORREL_LINE_BYTES 65

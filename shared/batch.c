@@ -108,7 +108,6 @@ EXPORTED viskorrel_reply viskorrel_blob_refusal(const uint8_t *blob, size_t leng
  * G (1 - 9 u) - 21 u M: where G is above reach = least (1 + 2^-40) + 2^-40 M, it is above the least, with hundreds of times to spare over the
  * roundings here. No number is above 1e30 in size, so nothing overflows and no distance is NaN; what underflows is below 2^-500, and reach has 2^-400 for it.
  */
-#define COORDINATE 4 /* floats of a workspace: x, y, z, m */
 #define AXES 3
 #define LARGEST 1e30
 #define MARGIN 9.094947017729282e-13 /* 2^-40 */
@@ -140,7 +139,7 @@ static int span(const struct side *side, double *box)
             measurable = 1;
     }
     for (k = 0; k < sizes.first; k++) {
-        size_t axis = k % COORDINATE;
+        size_t axis = k % VISKORREL_COORDINATE_FLOATS;
         double number = floats[k];
 
         if (axis >= AXES)

@@ -5,10 +5,11 @@ import threading
 
 VARIABLE = "VISKORREL_LIBRARY"
 NAME = "libviskorrel.so"
-SONAME = "libviskorrel.so.0"
+SONAME = "libviskorrel.so.1"
 
 NOTHING, ANSWERED, REFUSED, NO_SURFACE = 0, 1, 2, 3
 POINT_BYTES, LINE_BYTES = 37, 65
+COORDINATE_FLOATS, RUN_NUMBERS = 4, 2  # what each takes of a workspace: x, y, z, m; kind and count
 
 size, address = ctypes.c_size_t, ctypes.c_void_p
 

@@ -3,11 +3,10 @@ import ctypes
 import threading
 
 from ._geometry import blob
-from ._library import ANSWERED, LINE_BYTES, NO_SURFACE, POINT_BYTES, REFUSED, library
+from ._library import ANSWERED, COORDINATE_FLOATS, LINE_BYTES, NO_SURFACE, POINT_BYTES, REFUSED, RUN_NUMBERS, library
 from ._refusal import Refusal
 
 TOO_SHORT = 15  # the refusal of a workspace
-COORDINATE, RUN = 4, 2  # what each takes of a workspace: x, y, z, m; kind and count
 
 
 class Memory(threading.local):
@@ -15,8 +14,8 @@ class Memory(threading.local):
 
     def __init__(self):
         self.sides = [None, None]
-        self.lend(0, COORDINATE, RUN)
-        self.lend(1, COORDINATE, RUN)
+        self.lend(0, COORDINATE_FLOATS, RUN_NUMBERS)
+        self.lend(1, COORDINATE_FLOATS, RUN_NUMBERS)
         self.output = ctypes.create_string_buffer(LINE_BYTES)
 
     def lend(self, side, floats, table):
@@ -163,11 +162,11 @@ def read(geometry):
     filled = ask("viskorrel_read", (geometry,))
     floats, table = MEMORY.sides[0]
     runs, at = [], 0
-    for place in range(0, filled.second, RUN):
-        kind, count = table[place:place + RUN]
-        ordinates = floats[at:at + COORDINATE * count]
-        runs.append((kind, list(zip(*(ordinates[axis::COORDINATE] for axis in range(COORDINATE))))))
-        at += COORDINATE * count
+    for place in range(0, filled.second, RUN_NUMBERS):
+        kind, count = table[place:place + RUN_NUMBERS]
+        ordinates = floats[at:at + COORDINATE_FLOATS * count]
+        runs.append((kind, list(zip(*(ordinates[axis::COORDINATE_FLOATS] for axis in range(COORDINATE_FLOATS))))))
+        at += COORDINATE_FLOATS * count
     return runs
 
 

@@ -1,4 +1,4 @@
--- `listing::list_all` meets its contract. The invariant: the items of the first k classes are listed, at most as many of each as there are points; there are three floats to a point. Assumes nothing.
+-- `listing::list_all` meets its contract. The invariant: the items of the first k classes are listed, at most as many of each as there are points; a point has at least as many floats as there are classes. Assumes nothing.
 use mathlib.Core.Path.{_≡_, refl, _∙_}
 use Prim.Native.Nat.{_-_, _*_, _≤_}
 use native.Mathlib.Nat.{add-mul, mul-le-mul-right}
