@@ -1,4 +1,4 @@
--- Blobs that are measured alike get the same report and output. Assumes nothing.
+-- Blobs that are measured alike get the same report and output: those that differ in what is ignored, and those whose m differs. Assumes nothing.
 use Prim.Native.Nat.{ℕ, _+_}
 use mathlib.Core.Path.{_≡_, refl, sym, ap, _∙_}
 use mathlib.Core.List.{List, [], _∷_}
@@ -6,11 +6,12 @@ use lib.Ieee.{Float}
 use Rattle.refusals.specs.Checks.{check, firstOf}
 use Rattle.coords.specs.Parts.{Run, run, mapRuns, otherIf, otherCount}
 use Rattle.blob.specs.Blob.{runsOfBlob}
+use Rattle.blob.specs.Ignored.{SameButIgnored}
 use Rattle.parts.specs.Points.{pointOf}
 use Rattle.operands.specs.Operands.{Workspaces}
 use Rattle.outcomes.specs.Operations.{noSide}
 use Rattle.outcomes.specs.Alike.{MeasuredAlike, AnswersAlike, SameButM}
-use Rattle.outcomes.proofs.Alike.{coordinates-alike, runs-alike, two-alike, side-alike, alike}
+use Rattle.outcomes.proofs.Alike.{ignored-measured-alike, coordinates-alike, runs-alike, two-alike, side-alike, alike}
 use Rattle.outcomes.proofs.WithoutM.{same-but-m-measured-alike}
 use Rattle.interpolation.specs.Operation.{outOfRange, isNoLine, interpolationChecks, checksOfLent, pointOfBlob, lineInterpolatePoint}
 use Rattle.interpolation.proofs.Lines.{segments-map}
@@ -36,10 +37,13 @@ module _ (s t : List ℕ) (same : MeasuredAlike s t) where
       (two-alike _ _ _ _ (side-alike 1 _ _ (same .header))
       (two-alike _ _ _ _ (side-alike 1 _ _ (same .walk)) (rw (no-line-alike, coordinates-alike s t same, runs-alike s t same))))
 
-  -- End theorem: blobs that differ in what is ignored get the same report and output.
   pub line-interpolate-point-alike : (fraction : Float) (w : Workspaces) (lent : List ℕ) → AnswersAlike (lineInterpolatePoint s fraction w lent) (lineInterpolatePoint t fraction w lent)
   unfolding lineInterpolatePoint pointOfBlob
   line-interpolate-point-alike fraction w lent = alike _ _ _ _ _ _ _ _ _ _ (checks-alike fraction w lent) refl (rw (same .srid, same .points))
+
+-- End theorem: blobs that differ in what is ignored alone get the same report and output.
+pub what-is-ignored-along : (s t : List ℕ) → SameButIgnored s t → (fraction : Float) (w : Workspaces) (lent : List ℕ) → AnswersAlike (lineInterpolatePoint s fraction w lent) (lineInterpolatePoint t fraction w lent)
+what-is-ignored-along s t h = line-interpolate-point-alike s t (ignored-measured-alike s t h)
 
 -- End theorem: where what is read of two blobs differs in m at most, the report and output are the same.
 pub m-is-ignored-along : (s t : List ℕ) → SameButM s t → (fraction : Float) (w : Workspaces) (lent : List ℕ) → AnswersAlike (lineInterpolatePoint s fraction w lent) (lineInterpolatePoint t fraction w lent)

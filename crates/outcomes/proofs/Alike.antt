@@ -1,4 +1,5 @@
--- End theorems: blobs that are measured alike get the same report and output from every measuring operation on two blobs, on either side. Assumes nothing.
+-- End theorems: blobs that are measured alike, with the same Z test, get the same report and output from every measuring operation on two blobs, on either
+-- side. Assumes nothing.
 use Prim.Native.Nat.{ℕ}
 use mathlib.Core.Path.{_≡_, refl, sym, ap, _∙_}
 use mathlib.Core.List.{List, [], _++_}
@@ -8,7 +9,7 @@ use lib.Ieee.{Float}
 use Rattle.refusals.specs.Checks.{Check, firstOf, onSide}
 use Rattle.refusals.specs.declared.Refusal.{Refusal}
 use Rattle.refusals.proofs.Sides.{first-on-side, first-of-two}
-use Rattle.gpb.specs.Header.{geometryStart, topType, hasZ, sridOf, lacksZ, headerChecks, headerChecks3d}
+use Rattle.gpb.specs.Header.{geometryStart, sridOf, headerChecks3d}
 use Rattle.gpb.specs.Written.{pointBytes}
 use Rattle.coords.specs.Walk.{Parsed, Geometry}
 use Rattle.coords.specs.Parts.{mapRuns, walkedRuns, coordinateCount, verticesOf}
@@ -40,7 +41,7 @@ ignored-measured-alike s t h =
     }
 
 pub ignored-same-z-test : (s t : List ℕ) → SameButIgnored s t → SameZTest s t
-ignored-same-z-test s t h = ap hasZ (ignored-changes-nothing s t h .type)
+ignored-same-z-test s t h = ap firstOf (ignored-changes-nothing s t h .header-3d)
 
 -- every blob is measured as itself: the law for one side is that for both
 pub measured-as-itself : (s : List ℕ) → MeasuredAlike s s
@@ -62,11 +63,6 @@ two-alike cs cs′ ds ds′ p q = first-of-two cs ds ∙ (rw (p, q) (sym (first-
 
 pub side-alike : (side : ℕ) (cs cs′ : List (Check ℕ)) → firstOf cs ≡ firstOf cs′ → firstOf (onSide side cs) ≡ firstOf (onSide side cs′)
 side-alike side cs cs′ p = first-on-side side cs ∙ (rw p (sym (first-on-side side cs′)))
-
--- 13 comes last of the header's
-header-3d-alike : (s t : List ℕ) → MeasuredAlike s t → SameZTest s t → firstOf (headerChecks3d s) ≡ firstOf (headerChecks3d t)
-unfolding headerChecks3d lacksZ
-header-3d-alike s t h z = two-alike _ _ _ _ (h .header) (rw z)
 
 -- ---- outcomes
 
@@ -96,8 +92,8 @@ module _ (a a′ b b′ : List ℕ) (first : MeasuredAlike a a′) (first-z : Sa
     lent-alike : firstOf (lentChecks a b w) ≡ firstOf (lentChecks a′ b′ w)
     unfolding operandChecks workspaceChecks
     lent-alike =
-        two-alike _ _ _ _ (side-alike 1 _ _ (header-3d-alike a a′ first first-z))
-        (two-alike _ _ _ _ (side-alike 2 _ _ (header-3d-alike b b′ second second-z))
+        two-alike _ _ _ _ (side-alike 1 _ _ first-z)
+        (two-alike _ _ _ _ (side-alike 2 _ _ second-z)
         (two-alike _ _ _ _ (side-alike 1 _ _ (first .walk))
         (two-alike _ _ _ _ (side-alike 2 _ _ (second .walk))
         (rw (coordinates-alike a a′ first, runs-alike a a′ first, coordinates-alike b b′ second, runs-alike b b′ second)))))
@@ -155,7 +151,7 @@ pairs-answered-alike a a′ b b′ p y q z =
       shortest-line = shortest-line-alike a a′ b b′ p y q z;
     }
 
--- Blobs that differ on each side in what is ignored alone get the same report and output from every measuring operation.
+-- Blobs that differ on each side in what is ignored alone get the same report and output from every measuring operation on two blobs.
 pub what-is-ignored : (a a′ b b′ : List ℕ) → SameButIgnored a a′ → SameButIgnored b b′ → PairsAnsweredAlike a b a′ b′
 what-is-ignored a a′ b b′ p q =
     pairs-answered-alike a a′ b b′ (ignored-measured-alike a a′ p) (ignored-same-z-test a a′ p) (ignored-measured-alike b b′ q) (ignored-same-z-test b b′ q)

@@ -5,7 +5,7 @@ use mathlib.Core.Path.{_≡_}
 use mathlib.Core.List.{List}
 use lib.Ieee.{Float}
 use Rattle.refusals.specs.Checks.{firstOf}
-use Rattle.gpb.specs.Header.{geometryStart, topType, hasZ, sridOf, headerChecks}
+use Rattle.gpb.specs.Header.{geometryStart, sridOf, headerChecks, headerChecks3d}
 use Rattle.coords.specs.Walk.{Coordinate}
 use Rattle.coords.specs.Parts.{mapRuns}
 use Rattle.coords.specs.Refusals.{walkChecks}
@@ -21,9 +21,9 @@ pub record MeasuredAlike (s t : List ℕ) : Type 0 where
   pub srid : sridOf s ≡ sridOf t
   pub points : mapRuns pointOf (runsOfBlob s) ≡ mapRuns pointOf (runsOfBlob t)
 
--- the same Z test, which operations on two blobs ask for
+-- the same refusal of the header with the Z test, which operations on two blobs ask for: of headers that break nothing else, both pass it or both fail
 abbrev pub SameZTest : List ℕ → List ℕ → Type 0
-SameZTest s t = hasZ (topType s) ≡ hasZ (topType t)
+SameZTest s t = firstOf (headerChecks3d s) ≡ firstOf (headerChecks3d t)
 
 -- two calls answer alike: the same report, the same output; nothing is said of the workspaces
 pub record AnswersAlike (o p : Outcome) : Type 0 where
@@ -45,8 +45,8 @@ pub record PairsAnsweredAlike (a b a′ b′ : List ℕ) : Type 0 where
 unfoldable pub withoutM : Coordinate → Coordinate
 withoutM c = record { x = c .x; y = c .y; z = c .z; m = 0 }
 
--- two blobs whose refusals, SRID, kinds, counts, x, y and z are the same: what is read of them differs in m at most. The Z test does not follow: (3, 4, 0)
--- is read from 80000000 + 2001, which passes it, and from 2001, which does not.
+-- two blobs whose refusals, Z test apart, SRID, kinds, counts, x, y and z are the same: what is read of them differs in m at most, whatever their bytes (either
+-- order, XYZ or XYZM, envelopes). The Z test does not follow: (3, 4, 0) is read from 80000000 + 2001, which passes it, and from 2001, which does not.
 pub record SameButM (s t : List ℕ) : Type 0 where
   pub header : firstOf (headerChecks s) ≡ firstOf (headerChecks t)
   pub walk : firstOf (walkChecks s (geometryStart s)) ≡ firstOf (walkChecks t (geometryStart t))
