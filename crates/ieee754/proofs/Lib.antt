@@ -12,6 +12,7 @@ pub mod HalfUnit
 pub mod SquaredRoot
 pub mod PositiveRoots
 pub mod RootRelation
+pub mod NeededDigits
 pub mod FloatUnits
 pub mod SignClear
 pub mod SumsAndSquares

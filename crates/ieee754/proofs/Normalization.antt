@@ -1,10 +1,15 @@
 -- A positive finite number as 53 binary digits and a power of two, and the root's pattern from them. Assumes nothing.
+use mathlib.Core.Bool.{Bool, cond}
 use mathlib.Core.Path.{_≡_, refl, sym, ap, _∙_}
 use Prim.Native.Nat.{ℕ, zero, suc, _+_, _-_, _*_, _/_, _%_, _^_, _≤_, _<_}
-use native.Mathlib.Nat.{mul-assoc, add-comm, pow-succ', lt-irrefl, zero-lt-suc}
+use native.Mathlib.Decide.{decLe}
+use native.Mathlib.Nat.{mul-assoc, add-comm, pow-succ', lt-irrefl, zero-lt-suc, lt-of-not-le}
 use native.Mathlib.Omega.{arith}
+use lib.Arith.{le→nltb}
+use lib.Dec.{ltb, lt→ltb}
+use lib.Ieee.Bits.{is-true, is-false}
 use lib.Pow.{pow-add}
-use Rattle.ieee754.specs.InnerRoot.{unitsOfFields, unitsOfPattern, rootPattern, PositiveFinite, Normalized, RootDigits}
+use Rattle.ieee754.specs.InnerRoot.{unitsOfFields, unitsOfPattern, greatestPattern, rootPattern, PositiveFinite, Normalized, EvenExponent, RootDigits, roundedRoot}
 use Rattle.ieee754.proofs.PatternUnits.{units-by-fields}
 use Rattle.ieee754.proofs.RootSearch.{rounds-down, rounds-up, root-has-53-digits}
 
@@ -68,26 +73,33 @@ shifted-again b m (suc w) s h p = record { positive = omega (arith, s .positive)
 pub shifted-done : (b m w : ℕ) → b / 2 ^ 52 ≡ 0 → Shifted b m w → 2 ^ 52 ≤ m → Normalized b m w
 shifted-done b m w e s h = record { low = h; high = s .high; span = omega (arith, s .span); same = ap (λ (z : ℕ). z * 2 ^ 52) (units-by-fields b 0 b e (omega arith)) ∙ s .same }
 
--- ---- one statement for both parities and both roundings: m is `Normalized`'s, or twice it where w is odd
-pub record EvenExponent (b m c : ℕ) : Type 0 where
-  pub low : 2 ^ 52 ≤ m
-  pub high : m < 2 ^ 54
-  pub span : c ≤ 1600
-  pub same : 4 * (unitsOfPattern b * 2 ^ 1074) ≡ 4 * (m * 2 ^ 52) * (2 ^ c * 2 ^ c)
-
+-- ---- both parities, and both roundings
 pub even-exponent : (b m w : ℕ) → Normalized b m w → ((w + 1022) % 2 ≡ 1 → ⊥) → EvenExponent b m ((w + 1022) / 2 - 26)
 even-exponent b m w s h = record { low = s .low; high = omega (arith, s .high); span = omega (arith, s .span); same = by-halves b m w ((w + 1022) / 2 - 26) s (omega arith) }
 
 pub odd-exponent : (b m w : ℕ) → Normalized b m w → (w + 1022) % 2 ≡ 1 → EvenExponent b (m * 2) ((w + 1022) / 2 - 26)
 odd-exponent b m w s h = record { low = omega (arith, s .low); high = omega (arith, s .high); span = omega (arith, s .span); same = by-halves-odd b m w ((w + 1022) / 2 - 26) s (omega arith) }
 
-abbrev IsRootPattern : ℕ → ℕ → Type 0
-IsRootPattern b r = (r ≡ rootPattern (unitsOfPattern b)) × (r < 9218868437227405312)
+-- ---- the root's pattern
 
-pub root-rounds-up : (b m c q rest : ℕ) → EvenExponent b m c → RootDigits m q rest → q < rest → IsRootPattern b (c * 2 ^ 52 + (q + 1))
-unfolding rootPattern
-root-rounds-up b m c q rest e w h = (sym (rounds-up (4 * (unitsOfPattern b * 2 ^ 1074)) m c q rest (e .same) w (root-has-53-digits m q rest w (e .low)) (e .span) h), omega (arith, e .span, w .small))
+pub rounded-above : (q rest : ℕ) → q < rest → roundedRoot q rest ≡ q + 1
+unfolding roundedRoot
+rounded-above q rest h = ap (λ (t : Bool). cond t (q + 1) q) (is-true (ltb q rest) (lt→ltb q rest h))
 
-pub root-rounds-down : (b m c q rest : ℕ) → EvenExponent b m c → RootDigits m q rest → rest ≤ q → IsRootPattern b (c * 2 ^ 52 + q)
+pub rounded-else : (q rest : ℕ) → rest ≤ q → roundedRoot q rest ≡ q
+unfolding roundedRoot
+rounded-else q rest h = ap (λ (t : Bool). cond t (q + 1) q) (is-false (ltb q rest) (le→nltb q rest h))
+
+pub root-rounds : (b m c q rest : ℕ) → EvenExponent b m c → RootDigits m q rest → (c * 2 ^ 52 + roundedRoot q rest ≡ rootPattern (unitsOfPattern b)) × (c * 2 ^ 52 + roundedRoot q rest < 9218868437227405312)
 unfolding rootPattern
-root-rounds-down b m c q rest e w h = (sym (rounds-down (4 * (unitsOfPattern b * 2 ^ 1074)) m c q rest (e .same) w (root-has-53-digits m q rest w (e .low)) (e .span) h), omega (arith, e .span, w .small))
+root-rounds b m c q rest e w = go (decLe rest q)
+  where
+    X : ℕ
+    X = 4 * (unitsOfPattern b * 2 ^ 1074)
+
+    big : 2 ^ 52 ≤ q
+    big = root-has-53-digits m q rest w (e .low)
+
+    go : Dec (rest ≤ q) → (c * 2 ^ 52 + roundedRoot q rest ≡ greatestPattern X 63 0) × (c * 2 ^ 52 + roundedRoot q rest < 9218868437227405312)
+    go (yes h) = rw (rounded-else q rest h) (sym (rounds-down X m c q rest (e .same) w big (e .span) h), omega (arith, e .span, w .small))
+    go (no f) = let h = lt-of-not-le f in rw (rounded-above q rest h) (sym (rounds-up X m c q rest (e .same) w big (e .span) h), omega (arith, e .span, w .small))

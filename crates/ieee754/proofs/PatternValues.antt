@@ -2,17 +2,18 @@
 use mathlib.Core.Bool.{Bool, true, false, not, cond}
 use mathlib.Core.Path.{_≡_, refl, sym, ap, _∙_, subst}
 use Prim.Native.Nat.{ℕ, zero, suc, _+_, _*_, _/_, _%_, _^_, _≤_, _<_}
-use native.Mathlib.Nat.{mul-one, mul-div-cancel, lt-of-not-le}
+use native.Mathlib.Nat.{mul-one, mul-div-cancel, lt-of-not-le, lt-of-lt-of-le}
 use native.Mathlib.Omega.{arith}
 use lib.Arith.{lt→nleb, le→nltb}
-use lib.Dec.{T, leb, eqb, eqb→eq, le→leb}
+use lib.Dec.{T, leb, eqb, eqb→eq, le→leb, lit<}
 use lib.Ieee.{Float, nan, inf, fin, binary64, down, nanBits, fits, odd, ofFields, ofBits, toBits}
 use lib.Ieee.Bits.{nanBits-above, ofBits-toBits, is-false, is-true}
 use lib.Ieee.Exact.{HasValue, odd-sign}
 use lib.Ieee.Fits.{down-pos}
-use lib.Ieee.Positive.{positive}
+use lib.Ieee.Positive.{positive, positive-of-value}
 use Rattle.ieee754.specs.Root.{unitsOf}
 use Rattle.ieee754.specs.InnerRoot.{unitsOfFields, unitsOfPattern, PositiveFinite}
+use Rattle.ieee754.proofs.PatternUnits.{units-keep-order}
 
 -- ---- a pattern's value
 fields : (b : ℕ) → b < 2 ^ 63 → ofBits binary64 b ≡ ofFields binary64 false (b / 2 ^ 52) (b % 2 ^ 52)
@@ -94,6 +95,12 @@ units-of-value (fin s m e) n v = ap (λ (z : ℕ). z / down e) (v .1) ∙ mul-di
 
 pub units-of-float : (s : Float) → T (fits binary64 s) → T (positive s) → unitsOf s ≡ unitsOfPattern (toBits binary64 s)
 units-of-float s f p = units-of-value s (unitsOfPattern (toBits binary64 s)) (subst (λ (z : Float). HasValue z false (unitsOfPattern (toBits binary64 s)) (2 ^ 1074)) (ofBits-toBits binary64 s f) (pattern-value (toBits binary64 s) (positive-finite-pattern s f p .below)))
+
+pub positive-of-pattern : (b : ℕ) → PositiveFinite b → T (positive (ofBits binary64 b))
+positive-of-pattern b h = positive-of-value (ofBits binary64 b) (unitsOfPattern b) (2 ^ 1074) (pattern-value b (h .below)) (lt-of-lt-of-le one (units-keep-order 1 b (h .above)))
+  where
+    one : 0 < unitsOfPattern 1
+    one = unfold unitsOfPattern in lit< tt
 
 pub finite-pattern-no-nan : (b : ℕ) → b < 9218868437227405312 → T (not (nanBits binary64 b))
 finite-pattern-no-nan b h = subst (λ (t : Bool). T (not t)) (sym (nanBits-above binary64 b)) (le→nltb (2047 * 2 ^ 52) (b % 2 ^ 63) (omega arith))

@@ -1,5 +1,5 @@
 -- The cases of `rootOf`, by the tests that the code makes. Assumes nothing.
-use mathlib.Core.Bool.{Bool, true, false, not, _||_, Bool·beq, true≢false, false≢true}
+use mathlib.Core.Bool.{Bool, true, false, not, _&&_, _||_, Bool·beq, true≢false, false≢true}
 use mathlib.Core.Path.{_≡_, refl, sym, ap, _∙_, subst}
 use Prim.Native.Nat.{ℕ, zero, suc, _+_, _*_, _<_}
 use native.Mathlib.Nat.{mul-pos, zero-lt-suc}
@@ -83,3 +83,15 @@ positive-otherwise (fin false (suc m) e) a b c d = lt→ltb 0 (suc m) (zero-lt-s
 pub positive-number : (s : Float) → T (positive s) → T (not (isNan s))
 unfolding isNan
 positive-number (fin s m e) p = tt
+
+-- above 0 and below infinity is positive and finite
+pub positive-by-tests : (s : Float) → positive s ≡ (lt (ofBits binary64 0) s && lt s (div binary64 (ofBits binary64 0x3ff0_0000_0000_0000) (ofBits binary64 0)))
+unfolding lt ofBits div
+positive-by-tests nan = refl
+positive-by-tests (inf true) = refl
+positive-by-tests (inf false) = refl
+positive-by-tests (fin true m e) = refl
+positive-by-tests (fin false zero e) = rw (naught (down e), naught (up e))
+positive-by-tests (fin false (suc m) e) =
+    is-true (ltb 0 (suc m)) (lt→ltb 0 (suc m) (zero-lt-suc m))
+    ∙ sym (ap (λ (t : Bool). t && true) (is-true (ltb (0 * down e) (suc m * up e * 1)) (lt→ltb (0 * down e) (suc m * up e * 1) (omega (arith, naught (down e), mul-pos (zero-lt-suc m) (up-pos e))))))

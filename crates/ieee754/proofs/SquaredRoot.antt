@@ -41,7 +41,7 @@ normal-of r h k = record { is = omega arith; low = omega arith; high = omega ari
 
 -- ---- units of the root and its neighbours
 module _ (r q c : ℕ) (n : Normal r q c) where
-  units-here : unitsOfPattern r ≡ q * 2 ^ c
+  pub units-here : unitsOfPattern r ≡ q * 2 ^ c
   units-here = ap unitsOfPattern (n .is) ∙ units-at c q (n .low) (le-of-lt (n .high))
 
   units-above : unitsOfPattern (suc r) ≡ (q + 1) * 2 ^ c
@@ -62,7 +62,7 @@ module _ (r q c : ℕ) (n : Normal r q c) where
       step : (c q : ℕ) → q ≡ 2 ^ 52 → 485 ≤ c → c * 2 ^ 52 + q - 1 ≡ (c - 1) * 2 ^ 52 + (2 ^ 53 - 1)
       step c q e h = omega arith
 
-  units-below-least : (q - 1) * 2 ^ c ≤ unitsOfPattern (r - 1)
+  pub units-below-least : (q - 1) * 2 ^ c ≤ unitsOfPattern (r - 1)
   units-below-least = go (eq-or-lt-of-le (n .low))
     where
       half : (c : ℕ) → 485 ≤ c → 2 ^ c ≡ 2 ^ (c - 1) * 2

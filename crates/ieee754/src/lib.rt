@@ -6,26 +6,41 @@ ghost use lib.Ieee.{binary64, ofBits, toBits};
 ghost use lib.Ieee.Positive.{positive};
 ghost use Rattle.ieee754.specs.MinMax.{minimumOf, maximumOf, clampOf, absoluteOf};
 ghost use Rattle.ieee754.specs.Root.{rootOf, IsRoot};
-ghost use Rattle.ieee754.specs.InnerRoot.{RootDigits, isIntegerRoot, trialRemainder, PositiveFinite, Normalized, unitsOfPattern, rootPattern};
+ghost use Rattle.ieee754.specs.Digits.{digitsNeeded};
+ghost use Rattle.ieee754.specs.InnerRoot.{RootDigits, DigitTurns, isIntegerRoot, trialRemainder};
+ghost use Rattle.ieee754.specs.InnerRoot.{PositiveFinite, Normalized, EvenExponent, unitsOfPattern, rootPattern, roundedRoot};
 
-// A whole root and its remainder.
-struct IntegerRoot {
+// A whole root, its remainder, and how many of its digits were looked for.
+struct DigitRoot {
     digits: u64,
     remainder: u64,
+    turns: u64,
 }
 
-// The whole root of m * 2^52, digit by digit, and the remainder.
-fn root_digits(m: u64) -> IntegerRoot
+// The whole root of m * 2^52, digit by digit, and the remainder. It ends once nothing remains: the remainder is 0 and no
+// 1 of the radicand is left, so that all further digits are 0.
+fn root_digits(m: u64) -> DigitRoot
     requires { ⌜ m < 2 ^ 54 ⌝ }
-    ensures { λ r. ⌜ RootDigits m (r .digits) (r .remainder) ⌝ }
+    ensures root { λ r. ⌜ RootDigits m (r .digits) (r .remainder) ⌝ }
+    ensures turns { λ r. ⌜ DigitTurns m (r .digits) (r .turns) ⌝ }
 {
     let mut q = 0u64;
     let mut rest = 0u64;
-    let mut x = m;
-    let mut i = 0u64;
-    while i < 53 {
-        let d = x / 4503599627370496;
-        x = x % 4503599627370496 * 4;
+    let mut radicand = m;
+    let mut left = 53u64;
+    let mut unit = 9007199254740992u64;
+    while 0 < left {
+        if rest == 0 {
+            if radicand == 0 {
+                return DigitRoot {
+                    digits: q * unit,
+                    remainder: 0,
+                    turns: 53 - left,
+                };
+            }
+        }
+        let d = radicand / 4503599627370496;
+        radicand = radicand % 4503599627370496 * 4;
         rest = rest * 4 + d;
         let t = q * 4 + 1;
         q = q * 2;
@@ -33,12 +48,20 @@ fn root_digits(m: u64) -> IntegerRoot
             rest = rest - t;
             q = q + 1;
         }
-        i += 1;
+        unit = unit / 2;
+        left -= 1;
     }
-    IntegerRoot {
+    DigitRoot {
         digits: q,
         remainder: rest,
+        turns: 53,
     }
+}
+
+// A whole root and its remainder.
+struct IntegerRoot {
+    digits: u64,
+    remainder: u64,
 }
 
 // Whether a number is the whole root, and the remainder if so, else 0.
@@ -127,7 +150,11 @@ fn integer_root(m: u64) -> IntegerRoot
             remainder: u.remainder,
         };
     }
-    root_digits(m)
+    let d = root_digits(m);
+    IntegerRoot {
+        digits: d.digits,
+        remainder: d.remainder,
+    }
 }
 
 // A significand of 53 binary digits and an exponent.
@@ -161,26 +188,49 @@ fn normalized(b: u64) -> Significand
     }
 }
 
-// The pattern of the root of the number of pattern b: up exactly if the remainder is above the whole root.
-fn root_pattern(b: u64) -> u64
+// What a root is taken of: m, and the exponent of the root.
+struct Radicand {
+    m: u64,
+    exponent: u64,
+}
+
+// The number of pattern b as m * 2^52 times an even power of two.
+fn radicand_of(b: u64) -> Radicand
     requires { ⌜ PositiveFinite b ⌝ }
-    ensures { λ r. ⌜ (r ≡ rootPattern (unitsOfPattern b)) × (r < 9218868437227405312) ⌝ }
+    ensures { λ r. ⌜ EvenExponent b (r .m) (r .exponent) ⌝ }
 {
     let n = normalized(b);
     let g = n.exponent + 1022;
-    let c = g / 2 - 26;
     let mut m = n.digits;
     if g % 2 == 1 {
         m = m * 2;
     }
-    let d = integer_root(m);
-    let q = d.digits;
-    let rest = d.remainder;
-    if q < rest {
-        c * 4503599627370496 + (q + 1)
-    } else {
-        c * 4503599627370496 + q
+    Radicand {
+        m,
+        exponent: g / 2 - 26,
     }
+}
+
+// The pattern of a root's 53 digits and exponent: up exactly if the remainder is above the whole root.
+fn rounded(exponent: u64, digits: u64, remainder: u64) -> u64
+    requires { ⌜ (exponent ≤ 1600) × (digits < 2 ^ 53) ⌝ }
+    ensures { λ r. ⌜ r ≡ exponent * 2 ^ 52 + roundedRoot digits remainder ⌝ }
+{
+    if digits < remainder {
+        exponent * 4503599627370496 + (digits + 1)
+    } else {
+        exponent * 4503599627370496 + digits
+    }
+}
+
+// The pattern of the root of the number of pattern b.
+fn root_pattern(b: u64) -> u64
+    requires { ⌜ PositiveFinite b ⌝ }
+    ensures { λ r. ⌜ (r ≡ rootPattern (unitsOfPattern b)) × (r < 9218868437227405312) ⌝ }
+{
+    let n = radicand_of(b);
+    let d = integer_root(n.m);
+    rounded(n.exponent, d.digits, d.remainder)
 }
 
 // The square root, rounded once to the nearest: for every s, and of a positive finite s in document 01's own words.
@@ -202,6 +252,53 @@ pub fn root(s: f64) -> f64
     }
     let b = f64::to_bits(s);
     f64::from_bits(root_pattern(b))
+}
+
+// A root's pattern, and how many of its digits are needed.
+struct PatternAndDigits {
+    pattern: u64,
+    digits: u64,
+}
+
+// The pattern of the root of the number of pattern b by the digit loop, whose count of turns is that of the digits.
+fn pattern_by_digits(b: u64) -> PatternAndDigits
+    requires { ⌜ PositiveFinite b ⌝ }
+    ensures root { λ r. ⌜ (r .pattern ≡ rootPattern (unitsOfPattern b)) × (r .pattern < 9218868437227405312) ⌝ }
+    ensures digits { λ r. ⌜ (r .digits ≡ digitsNeeded (ofBits binary64 b)) × (r .digits ≤ 53) ⌝ }
+{
+    let n = radicand_of(b);
+    let d = root_digits(n.m);
+    PatternAndDigits {
+        pattern: rounded(n.exponent, d.digits, d.remainder),
+        digits: d.turns,
+    }
+}
+
+// A square root, and the digits needed.
+pub struct RootAndDigits {
+    pub root: f64,
+    pub digits: u32,
+}
+
+// The square root, as `root` gives it, and the digits needed: of a positive finite s the fewest leading binary digits of
+// the root whose square is s, 53 if there are none; of every other s 0.
+pub fn root_and_digits(s: f64) -> RootAndDigits
+    ensures root { λ r. ⌜ r .root ≡ rootOf s ⌝ }
+    ensures digits { λ r. ⌜ r .digits ≡ digitsNeeded s ⌝ }
+{
+    if 0.0 < s {
+        if s < 1.0 / 0.0 {
+            let found = pattern_by_digits(f64::to_bits(s));
+            return RootAndDigits {
+                root: f64::from_bits(found.pattern),
+                digits: found.digits as u32,
+            };
+        }
+    }
+    RootAndDigits {
+        root: root(s),
+        digits: 0,
+    }
 }
 
 // The smaller of two. A NaN operand is dropped, and of equal operands the first is given.
