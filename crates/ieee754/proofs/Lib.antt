@@ -13,6 +13,7 @@ pub mod SquaredRoot
 pub mod PositiveRoots
 pub mod RootRelation
 pub mod NeededDigits
+pub mod DigitLaws
 pub mod FloatUnits
 pub mod SignClear
 pub mod SumsAndSquares
