@@ -85,6 +85,12 @@ typedef struct viskorrel_pair {
     size_t second;
 } viskorrel_pair;
 
+/* What is returned of a root: itself, and the digits needed. */
+typedef struct viskorrel_root {
+    double root;       /* may be NaN, whose sign and payload mean nothing */
+    uint32_t digits;   /* 1 to 27: the root is exact; 53: it is rounded; 0: s is not both positive and finite */
+} viskorrel_root;
+
 /* What a coordinate takes of the floats, x, y, z, m, and a run of the table, kind and count. */
 #define VISKORREL_COORDINATE_FLOATS 4
 #define VISKORREL_RUN_NUMBERS 2
@@ -250,6 +256,15 @@ viskorrel_pair viskorrel_patches(const uint8_t *blob, size_t length);
  * Lent: the blob. Changed: nothing. Refusals: 9 and 10, from that patch.
  */
 viskorrel_pair viskorrel_next_patch(const uint8_t *blob, size_t length, size_t at, size_t left);
+
+/*
+ * ROOT. The square root of s, rounded once to the nearest, as distances take it, and the digits needed: for positive finite s the fewest
+ * leading binary digits of the root, from its first 1, whose square is s exactly. The root of 25 is 101 in binary, so 3; that of 4 is 10, so
+ * 1. Where there are none, since the root is rounded, digits is 53, which says nothing else: an exact root needs at most 27. For every other s
+ * digits is 0; the root of 0, -0, +infinity and NaN is then the number itself, that of a number below 0 is NaN.
+ * The root is found digit by digit, and ends with the last that is needed. Lent: nothing. Changed: nothing. Refusals: none.
+ */
+viskorrel_root viskorrel_root_digits(double s);
 
 #ifdef __cplusplus
 }

@@ -1,5 +1,6 @@
 // What C reads of an answer: a case, the number and side of a refusal, and a number or two.
 // Undecided in its contracts is only the payload, sign included, of a NaN in an answered number.
+use ieee754::RootAndDigits;
 use interpolation::Interpolated;
 use outcomes::Answer;
 use outcomes::Decision;
@@ -30,6 +31,13 @@ pub struct PairReply {
     pub side: u32,
     pub first: usize,
     pub second: usize,
+}
+
+// What is returned of a root: itself, and the digits needed.
+#[repr(C)]
+pub struct RootReply {
+    pub root: f64,
+    pub digits: u32,
 }
 
 // Nothing, or no.
@@ -158,5 +166,15 @@ pub fn reply_to_patch(range: PatchRange) -> PairReply
         PatchRange::Nothing => pair(NOTHING, 0, 0),
         PatchRange::NoSurface => pair(NO_SURFACE, 0, 0),
         PatchRange::Refused(refusal) => pair_refused(refusal),
+    }
+}
+
+// The reply to a root that was asked for with its digits.
+pub fn reply_to_root(found: RootAndDigits) -> RootReply
+    ensures { λ r. ⌜ (r .root ≡ found .root) × (r .digits ≡ found .digits) ⌝ }
+{
+    RootReply {
+        root: found.root,
+        digits: found.digits,
     }
 }

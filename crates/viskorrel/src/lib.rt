@@ -7,6 +7,7 @@ use replies::ANSWERED;
 use replies::NO_SURFACE;
 use replies::PairReply;
 use replies::Reply;
+use replies::RootReply;
 use replies::pair;
 use replies::pair_refused;
 use surface::Cursor;
@@ -20,6 +21,8 @@ ghost use Prim.Native.Nat.{ℕ, _+_, _-_};
 ghost use Rattle.blob.specs.Blob.{sizesOf};
 ghost use Rattle.interpolation.specs.Operation.{lineInterpolatePoint};
 ghost use Rattle.ieee754.specs.MinMax.{positiveZero};
+ghost use Rattle.ieee754.specs.Root.{rootOf};
+ghost use Rattle.ieee754.specs.Digits.{digitsNeeded};
 ghost use Rattle.surface.specs.Patches.{patchValue, patchOf, listOf, nextOf, Before};
 ghost use Rattle.outcomes.specs.Lent.{lent, left, lentOne, leftOne};
 ghost use Rattle.outcomes.specs.Operations.{distance, maxDistance, within, fullyWithin};
@@ -311,4 +314,12 @@ pub extern "C" fn viskorrel_next_patch(blob: &[u8], at: usize, left: usize) -> P
         × (r .case ≡ 1 → Before (now (blob .entry)) (r .second) (left - 1) (n + 1))) ⌝ }
 {
     replies::reply_to_patch(next_of_cursor(blob, at, left as u64))
+}
+
+// The square root of a number, and the digits needed: the fewest of its leading binary digits whose square is the number.
+#[no_mangle]
+pub extern "C" fn viskorrel_root_digits(s: f64) -> RootReply
+    ensures { λ r. ⌜ (r .root ≡ rootOf s) × (r .digits ≡ digitsNeeded s) ⌝ }
+{
+    replies::reply_to_root(ieee754::root_and_digits(s))
 }
