@@ -13,7 +13,7 @@
 use crate::Refusal;
 use viskorrel_sys as sys;
 
-pub use sys::{Pair, Reply};
+pub use sys::{Pair, Reply, Root};
 
 /// What a reply says.
 pub trait Outcome {
@@ -124,4 +124,9 @@ pub fn line_interpolate_point(blob: &[u8], fraction: f64, workspace: &mut Worksp
             output.len(),
         )
     }
+}
+
+pub fn root_digits(s: f64) -> Root {
+    // SAFETY: a number is passed, and nothing is lent.
+    unsafe { sys::viskorrel_root_digits(s) }
 }

@@ -64,6 +64,30 @@ pub enum Patch<'a> {
     NoSurface,
 }
 
+/// A square root, and how many of its digits are needed.
+#[derive(Clone, Copy, Debug, PartialEq)]
+pub struct RootAndDigits {
+    /// The root, rounded once to the nearest. May be NaN.
+    pub root: f64,
+    /// 1 to 27 where the root is exact, 53 where it is rounded, 0 where the number is not both positive and finite.
+    pub digits: u32,
+}
+
+/// The square root of `s`, and the digits needed: for positive finite `s` the fewest leading binary digits of the root, from its first 1,
+/// whose square is `s` exactly; 53 if there are none, and 0 for any other `s`. An exact root needs at most 27, so that 53 says that alone.
+///
+/// ```
+/// use viskorrel::{root_and_digits, RootAndDigits};
+///
+/// assert_eq!(root_and_digits(25.0), RootAndDigits { root: 5.0, digits: 3 }); // 5 is 101 in binary
+/// assert_eq!(root_and_digits(4.0), RootAndDigits { root: 2.0, digits: 1 });
+/// assert_eq!(root_and_digits(2.0), RootAndDigits { root: 2f64.sqrt(), digits: 53 });
+/// ```
+pub fn root_and_digits(s: f64) -> RootAndDigits {
+    let found = c::root_digits(s);
+    RootAndDigits { root: found.root, digits: found.digits }
+}
+
 /// What a blob takes of a workspace. Whether its type has Z is not asked. Refusals: 3 to 12.
 pub fn sizes(blob: &[u8]) -> Result<Sizes, Refusal> {
     let pair = c::sizes(blob);

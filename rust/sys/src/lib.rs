@@ -33,6 +33,14 @@ pub struct Pair {
     pub second: usize,
 }
 
+/// `viskorrel_root`
+#[repr(C)]
+#[derive(Clone, Copy, Debug)]
+pub struct Root {
+    pub root: f64,
+    pub digits: u32,
+}
+
 /// Declares exports on two blobs, each with its workspace; the number and the output are named where an export has them.
 macro_rules! on_two_blobs {
     ($(fn $name:ident ( $(number $number:ident)? $(output $output:ident)? );)*) => {
@@ -71,6 +79,7 @@ extern "C" {
     pub fn viskorrel_patch(blob: *const u8, length: usize, n: u64) -> Pair;
     pub fn viskorrel_patches(blob: *const u8, length: usize) -> Pair;
     pub fn viskorrel_next_patch(blob: *const u8, length: usize, at: usize, left: usize) -> Pair;
+    pub fn viskorrel_root_digits(s: f64) -> Root;
     pub fn viskorrel_3d_line_interpolate_point(
         blob: *const u8,
         length: usize,
