@@ -14,10 +14,11 @@ from ._operations import (
     NoSurface, closest_point, dfully_within, distance, dwithin, intersects, library_version, line_interpolate_point, longest_line,
     max_distance, patch, patches, read, refusal, shortest_line, sizes)
 from ._refusal import Refusal
+from ._root import RootAndDigits, root_digits
 
 __version__ = "0.3.0"
 
 __all__ = [
-    "Blobs", "LibraryMissing", "Nearest", "NoSurface", "Refusal", "batch", "closest_point", "dfully_within", "distance", "dwithin", "intersects",
-    "library_version", "line_interpolate_point", "load", "longest_line", "max_distance", "nearest", "patch", "patches", "read", "refusal",
-    "shortest_line", "sizes", "srid", "wkb"]
+    "Blobs", "LibraryMissing", "Nearest", "NoSurface", "Refusal", "RootAndDigits", "batch", "closest_point", "dfully_within", "distance", "dwithin",
+    "intersects", "library_version", "line_interpolate_point", "load", "longest_line", "max_distance", "nearest", "patch", "patches", "read",
+    "refusal", "root_digits", "shortest_line", "sizes", "srid", "wkb"]

@@ -22,6 +22,10 @@ class Pair(ctypes.Structure):
     _fields_ = [("outcome", ctypes.c_uint32), ("number", ctypes.c_uint32), ("side", ctypes.c_uint32), ("first", size), ("second", size)]
 
 
+class Root(ctypes.Structure):
+    _fields_ = [("root", ctypes.c_double), ("digits", ctypes.c_uint32)]
+
+
 class BlobList(ctypes.Structure):
     _fields_ = [("blobs", address), ("lengths", address), ("count", size)]
 
@@ -59,6 +63,7 @@ FUNCTIONS = {
     "viskorrel_patch": (Pair, BLOB + [ctypes.c_uint64]),
     "viskorrel_patches": (Pair, BLOB),
     "viskorrel_next_patch": (Pair, BLOB + [size] * 2),
+    "viskorrel_root_digits": (Root, NUMBER),
     "viskorrel_batch": (ctypes.c_int, [ctypes.c_uint32] + [address] * 4),
     "viskorrel_boxes": (ctypes.c_int, [address] * 2),
     "viskorrel_nearest": (ctypes.c_int, [address] * 4 + [size] * 2 + [address]),
