@@ -1,5 +1,6 @@
 //! Times the original and our library on the same calls.
 
+mod digits;
 #[allow(dead_code)]
 #[path = "../../compare/src/encode.rs"]
 mod encode;
@@ -19,6 +20,7 @@ mod workload;
 use std::path::Path;
 use std::process::ExitCode;
 
+use digits::Digits;
 use workload::Workload;
 
 const USAGE: &str = "bench compare ROUNDS NAME
@@ -26,24 +28,27 @@ bench ours ROUNDS NAME
 bench inputs FOLDER NAME";
 
 /// The workload of this name; where there is none, those whose name contains it.
-fn named(name: &str) -> Vec<Workload> {
+fn named(name: &str) -> (Vec<Workload>, Vec<Digits>) {
     let name = name.to_lowercase();
-    let all = workload::all();
-    let exact = all.iter().any(|w| w.name.to_lowercase() == name);
-    let wanted =
-        |w: &Workload| if exact { w.name.to_lowercase() == name } else { w.name.to_lowercase().contains(&name) };
-    let some: Vec<Workload> = all.into_iter().filter(wanted).collect();
-    if some.is_empty() {
+    let (mut pairs, mut roots) = (workload::all(), digits::all());
+    let exact = pairs.iter().any(|w| w.name.to_lowercase() == name) || roots.iter().any(|d| d.name == name);
+    let wanted = |of: &str| if exact { of.to_lowercase() == name } else { of.to_lowercase().contains(&name) };
+    pairs.retain(|w| wanted(&w.name));
+    roots.retain(|d| wanted(d.name));
+    if pairs.is_empty() && roots.is_empty() {
         eprintln!("no workload has a name with {name:?}");
         std::process::exit(2);
     }
-    some
+    (pairs, roots)
 }
 
 /// Our side alone, nothing compared: for a profiler, and for other comparisons. Nanoseconds of a call, and the name.
-fn ours(workloads: &[Workload], rounds: usize) {
+fn ours(workloads: &[Workload], digits: &[Digits], rounds: usize) {
     for w in workloads {
         println!("{:.0}\t{}", measure::ours_alone(w, rounds) / w.calls() as f64, w.name);
+    }
+    for d in digits {
+        println!("{:.1}\t{}", digits::ours_alone(d, rounds), d.name);
     }
 }
 
@@ -52,13 +57,17 @@ fn main() -> ExitCode {
     let words: Vec<&str> = words.iter().map(String::as_str).collect();
     let rounds = |word: &str| word.parse::<usize>().expect("a number of rounds").max(1);
     let equal = match words[..] {
-        ["compare", n, name] => table::print(&named(name), rounds(n)),
+        ["compare", n, name] => {
+            let (pairs, roots) = named(name);
+            table::print(&pairs, &roots, rounds(n))
+        }
         ["ours", n, name] => {
-            ours(&named(name), rounds(n));
+            let (pairs, roots) = named(name);
+            ours(&pairs, &roots, rounds(n));
             true
         }
         ["inputs", folder, name] => {
-            inputs::write(&named(name), Path::new(folder)).expect("the folder can be written");
+            inputs::write(&named(name).0, Path::new(folder)).expect("the folder can be written");
             true
         }
         _ => {

@@ -46,17 +46,24 @@ fn now() -> u64 {
     time.seconds as u64 * 1_000_000_000 + time.nanoseconds as u64
 }
 
+/// The processor time that some work takes, in nanoseconds.
+pub fn timed(work: impl FnOnce()) -> u64 {
+    let start = now();
+    work();
+    now() - start
+}
+
 /// One round: every call of the workload, and the time that all took.
 fn round(w: &Workload, mut call: impl FnMut(Op, &Pair)) -> u64 {
-    let start = now();
-    for _ in 0..w.times {
-        for pair in w.pairs.iter() {
-            for op in &w.ops {
-                call(*op, pair);
+    timed(|| {
+        for _ in 0..w.times {
+            for pair in w.pairs.iter() {
+                for op in &w.ops {
+                    call(*op, pair);
+                }
             }
         }
-    }
-    now() - start
+    })
 }
 
 /// Nanoseconds of a round.
@@ -76,6 +83,12 @@ impl Times {
 
 /// A side runs for at least so long for each round that is asked for, in nanoseconds: short rounds get more of them.
 const LEAST: u64 = 30_000_000;
+
+/// Rounds of two sides in turn, until they are enough.
+pub trait Rounds {
+    fn done(&self, rounds: usize) -> bool;
+    fn go_on(&mut self);
+}
 
 /// A workload's rounds so far.
 pub struct Run<'a> {
@@ -98,33 +111,40 @@ impl<'a> Run<'a> {
         Ok(Run { workload: w, library, rounds: vec![first] })
     }
 
-    pub fn done(&self, rounds: usize) -> bool {
-        let spent = self.rounds.iter().map(|[original, ours]| original.min(ours)).sum();
-        enough(self.workload, rounds, self.rounds.len(), spent)
+    pub fn times(&self) -> Times {
+        best(&self.rounds)
+    }
+}
+
+impl Rounds for Run<'_> {
+    fn done(&self, rounds: usize) -> bool {
+        self.rounds.len() >= self.workload.rounds || enough(&self.rounds, rounds)
     }
 
     /// One more round: the original, then ours.
-    pub fn go_on(&mut self) {
+    fn go_on(&mut self) {
         let (w, library) = (self.workload, &mut self.library);
         let original = round(w, |op, pair| drop(black_box(original_side::answer(op, pair))));
         let ours = round(w, |op, pair| library.call(op, pair));
         self.rounds.push([original, ours]);
     }
-
-    /// The best round of each side.
-    pub fn times(&self) -> Times {
-        let sides = [0, 1].map(|side| {
-            let mut times: Vec<u64> = self.rounds.iter().map(|round| round[side]).collect();
-            times.sort_unstable();
-            [times[0], times[times.len() / 2]].map(|time| time as f64)
-        });
-        let [spread, other] = sides.map(|[best, median]| median / best - 1.0);
-        Times { original: sides[0][0], ours: sides[1][0], spread: spread.max(other) }
-    }
 }
 
-fn enough(w: &Workload, rounds: usize, count: usize, spent: u64) -> bool {
-    count >= w.rounds || count >= rounds && spent >= rounds as u64 * LEAST
+/// The best round of each side.
+pub fn best(rounds: &[[u64; 2]]) -> Times {
+    let sides = [0, 1].map(|side| {
+        let mut times: Vec<u64> = rounds.iter().map(|round| round[side]).collect();
+        times.sort_unstable();
+        [times[0], times[times.len() / 2]].map(|time| time as f64)
+    });
+    let [spread, other] = sides.map(|[best, median]| median / best - 1.0);
+    Times { original: sides[0][0], ours: sides[1][0], spread: spread.max(other) }
+}
+
+/// Whether these are as many rounds as were asked for, and each side ran for long enough.
+pub fn enough(done: &[[u64; 2]], rounds: usize) -> bool {
+    let spent = done.iter().map(|[original, ours]| original.min(ours)).sum::<u64>();
+    done.len() >= rounds && spent >= rounds as u64 * LEAST
 }
 
 fn compare(w: &Workload, theirs: &[Answer], ours: &[Answer]) -> Result<(), String> {
@@ -141,10 +161,9 @@ fn compare(w: &Workload, theirs: &[Answer], ours: &[Answer]) -> Result<(), Strin
 /// Our side alone: nanoseconds of a round, at best.
 pub fn ours_alone(w: &Workload, rounds: usize) -> f64 {
     let mut library = Library::new(&w.pairs);
-    let (mut best, mut count, mut spent) = (u64::MAX, 0, 0);
-    while !enough(w, rounds, count, spent) {
-        let time = round(w, |op, pair| library.call(op, pair));
-        (best, count, spent) = (best.min(time), count + 1, spent + time);
+    let mut done: Vec<[u64; 2]> = Vec::new();
+    while done.len() < w.rounds && !enough(&done, rounds) {
+        done.push([round(w, |op, pair| library.call(op, pair)); 2]);
     }
-    best as f64
+    best(&done).ours
 }

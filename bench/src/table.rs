@@ -1,6 +1,7 @@
 //! The results as Markdown tables.
 
-use crate::measure::{Run, Times};
+use crate::digits::{self, Digits};
+use crate::measure::{Rounds, Run, Times};
 use crate::workload::{Table, Workload};
 
 /// With a comma between thousands.
@@ -33,23 +34,44 @@ fn unit(w: &Workload) -> (&'static str, f64) {
     }
 }
 
-fn row(w: &Workload, times: Times) -> String {
-    let ratio = times.ratio();
-    let (target, met) = match w.target {
-        Some(target) => (format!("{target}"), if ratio <= target { "yes" } else { "no" }),
-        None => (String::new(), ""),
-    };
-    let [calls, original, ours] = [(w.calls() as f64, 1.0), (times.original, unit(w).1), (times.ours, unit(w).1)]
-        .map(|(number, by)| grouped(number / by));
-    format!("| {} | {calls} | {original} | {ours} | {ratio:.2} | {target} | {met} |", w.name)
+/// What was measured of a workload.
+struct Measured<'a> {
+    name: &'a str,
+    calls: usize,
+    target: Option<f64>,
+    times: Times,
 }
 
-/// Times these workloads. A round of each comes in turn, so that a slow spell of the machine falls on all alike.
+impl<'a> Measured<'a> {
+    fn of(w: &'a Workload, times: Times) -> Measured<'a> {
+        Measured { name: &w.name, calls: w.calls(), target: w.target, times }
+    }
+
+    fn of_digits(d: &'a Digits, times: Times) -> Measured<'a> {
+        Measured { name: d.name, calls: d.numbers.len(), target: d.target, times }
+    }
+
+    fn meets(&self) -> Option<bool> {
+        self.target.map(|target| self.times.ratio() <= target)
+    }
+
+    /// The row of a table, with times divided by a unit's count.
+    fn row(&self, by: f64) -> String {
+        let Measured { name, times, .. } = self;
+        let target = self.target.map_or(String::new(), |target| format!("{target}"));
+        let met = self.meets().map_or("", |met| if met { "yes" } else { "no" });
+        let [calls, original, ours] =
+            [(self.calls as f64, 1.0), (times.original, by), (times.ours, by)].map(|(number, by)| grouped(number / by));
+        format!("| {name} | {calls} | {original} | {ours} | {:.2} | {target} | {met} |", times.ratio())
+    }
+}
+
+/// Takes the rounds of these. One of each comes in turn, so that a slow spell of the machine falls on all alike.
 /// `equal` becomes false where an answer differs.
-fn measured<'a>(some: &[&'a Workload], rounds: usize, equal: &mut bool) -> Vec<(&'a Workload, Times)> {
-    let mut runs: Vec<Run> = Vec::new();
-    for w in some {
-        match Run::new(w) {
+fn taken<R: Rounds>(made: impl Iterator<Item = Result<R, String>>, rounds: usize, equal: &mut bool) -> Vec<R> {
+    let mut runs: Vec<R> = Vec::new();
+    for run in made {
+        match run {
             Ok(run) => runs.push(run),
             Err(difference) => {
                 eprintln!("{difference}");
@@ -58,27 +80,41 @@ fn measured<'a>(some: &[&'a Workload], rounds: usize, equal: &mut bool) -> Vec<(
         }
     }
     while runs.iter().any(|run| !run.done(rounds)) {
-        runs.iter_mut().filter(|run| !run.done(rounds)).for_each(Run::go_on);
+        runs.iter_mut().filter(|run| !run.done(rounds)).for_each(R::go_on);
     }
-    runs.iter().map(|run| (run.workload, run.times())).collect()
+    runs
+}
+
+/// The heading of a table whose first side has this name.
+fn head(title: &str, first: &str, unit: &str) {
+    println!("\n{title}:\n");
+    println!("| workload | calls in a round | {first}, {unit} | ours, {unit} | ratio | target | met |");
+    println!("|---|--:|--:|--:|--:|--:|---|");
 }
 
 /// Measures and prints every workload; whether all answers were equal.
-pub fn print(workloads: &[Workload], rounds: usize) -> bool {
+pub fn print(workloads: &[Workload], digits: &[Digits], rounds: usize) -> bool {
     let (mut all, mut equal) = (Vec::new(), true);
     for table in Table::ALL {
         let some: Vec<&Workload> = workloads.iter().filter(|w| w.table == table).collect();
         let Some(first) = some.first() else { continue };
-        let unit = unit(first).0;
-        println!("\n{}:\n", heading(table));
-        println!("| workload | calls in a round | original, {unit} | ours, {unit} | ratio | target | met |");
-        println!("|---|--:|--:|--:|--:|--:|---|");
-        let list = measured(&some, rounds, &mut equal);
-        list.iter().for_each(|(w, times)| println!("{}", row(w, *times)));
-        all.extend(list);
+        head(heading(table), "original", unit(first).0);
+        for run in taken(some.iter().map(|w| Run::new(w)), rounds, &mut equal) {
+            println!("{}", Measured::of(run.workload, run.times()).row(unit(run.workload).1));
+            all.push((run.workload, run.times()));
+        }
     }
     growth(&all);
-    summary(&all, equal);
+    let mut list: Vec<Measured> = all.iter().map(|(w, times)| Measured::of(w, *times)).collect();
+    if !digits.is_empty() {
+        head("Roots digit by digit", "all 53 digits", "ns a call");
+        for run in taken(digits.iter().map(digits::Run::new), rounds, &mut equal) {
+            let measured = Measured::of_digits(run.digits, run.times());
+            println!("{}", measured.row(measured.calls as f64));
+            list.push(measured);
+        }
+    }
+    summary(&list, equal);
     equal
 }
 
@@ -106,16 +142,16 @@ fn growth(measured: &[(&Workload, Times)]) {
     }
 }
 
-fn summary(measured: &[(&Workload, Times)], equal: bool) {
-    let aimed: Vec<bool> = measured.iter().filter_map(|(w, times)| w.target.map(|t| times.ratio() <= t)).collect();
+fn summary(measured: &[Measured], equal: bool) {
+    let aimed: Vec<bool> = measured.iter().filter_map(Measured::meets).collect();
     let met = aimed.iter().filter(|met| **met).count();
     let answers = if equal { "all answers equal" } else { "ANSWERS DIFFER" };
     println!("\n{} workloads, {met} of {} targets met, {answers}", measured.len(), aimed.len());
-    if let Some((w, times)) = measured.iter().max_by(|(_, one), (_, other)| one.spread.total_cmp(&other.spread)) {
+    if let Some(m) = measured.iter().max_by(|one, other| one.times.spread.total_cmp(&other.times.spread)) {
         println!(
             "Least steady: {}, whose median round took {:.0} % longer than the best",
-            w.name,
-            100.0 * times.spread
+            m.name,
+            100.0 * m.times.spread
         );
     }
 }
