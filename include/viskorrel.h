@@ -54,7 +54,7 @@
 #include <stddef.h>
 #include <stdint.h>
 
-#define VISKORREL_VERSION "0.3.0"
+#define VISKORREL_VERSION "0.4.0"
 
 #ifdef __cplusplus
 extern "C" {

@@ -1,4 +1,4 @@
-// What C reads of an answer: a case, the number and side of a refusal, and a number or two.
+// What C reads of an answer: a case, the number and side of a refusal, and a number or two; a root and its digits.
 // Undecided in its contracts is only the payload, sign included, of a NaN in an answered number.
 use ieee754::RootAndDigits;
 use interpolation::Interpolated;
