@@ -44,7 +44,7 @@ pub struct Sweep {
 const ONE_MINUS_SLACK: f64 = 0.99999999999999822364316059975;
 
 // Whether a pair whose boxes are that far apart, squared, is no closer than the best.
-fn no_closer(best: Best, gap: f64) -> bool
+pub fn no_closer(best: Best, gap: f64) -> bool
     ensures { λ r. ⌜ r ≡ noCloser (bestOf best) gap ⌝ }
 {
     let d = best.witness.d;

@@ -23,11 +23,11 @@ module _ {S X : Type 0} (step : S → X → S) (Good : S → Type 0) (Safe : X �
   folds-agree step′ agree s [] g e = refl
   folds-agree step′ agree s (x ∷ l) g e = ap (λ (t : S). foldl step′ t l) (agree s x g (e .0)) ∙ folds-agree step′ agree (step s x) l (keeps s x g (e .0)) (e .1)
 
--- two folds that skip alike, whose steps agree everywhere, are the same
-pub skipping-agree : {S X : Type 0} (skip : S → X → Bool) (step step′ : S → X → S) → ((s : S) (x : X) → step′ s x ≡ step s x) → (s : S) (l : List X) → skipping skip step′ s l ≡ skipping skip step s l
+-- two folds that skip alike, whose steps agree on each element, are the same
+pub skipping-agree : {S X : Type 0} (skip : S → X → Bool) (step step′ : S → X → S) (s : S) (l : List X) → Each (λ (x : X). (t : S) → step′ t x ≡ step t x) l → skipping skip step′ s l ≡ skipping skip step s l
 unfolding skipping
-skipping-agree skip step step′ agree s [] = refl
-skipping-agree {S} skip step step′ agree s (x ∷ l) = ap (λ (t : S). skipping skip step′ (cond (skip s x) s t) l) (agree s x) ∙ skipping-agree skip step step′ agree (cond (skip s x) s (step s x)) l
+skipping-agree skip step step′ s [] agree = refl
+skipping-agree {S} skip step step′ s (x ∷ l) agree = ap (λ (t : S). skipping skip step′ (cond (skip s x) s t) l) (agree .0 s) ∙ skipping-agree skip step step′ (cond (skip s x) s (step s x)) l (agree .1)
 
 push : {S R : Type 0} (f : S → R) (c : Bool) (s t : S) → cond c (f s) (f t) ≡ f (cond c s t)
 push f true s t = refl

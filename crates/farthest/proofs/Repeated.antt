@@ -7,6 +7,7 @@ use Rattle.primitives.specs.declared.Witness.{Witness}
 use Rattle.primitives.specs.declared.Aabb.{Aabb}
 use Rattle.primitives.specs.Witnesses.{betweenOf}
 use Rattle.extremes.specs.Sweeps.{skipping, taking, longer}
+use Rattle.extremes.proofs.Lists.{each-all}
 use Rattle.extremes.proofs.Senses.{longest}
 use Rattle.extremes.proofs.Distances.{distance-fits}
 use Rattle.extremes.proofs.Skipping.{skipping-agree}
@@ -32,4 +33,4 @@ left-repeats box rs r best m = skipping-repeats (farthestFrom rs) Made (λ s a g
 
 -- repeated vertices on either side, or both, from any pair of points on
 pub sweep-repeats : (box : Aabb) {ls ps rs qs : List Point} → Repeats ls ps → Repeats rs qs → (start : Option Witness) → Made start → skipping (noFarther box) (farthestFrom rs) start ls ≡ skipping (noFarther box) (farthestFrom qs) start ps
-sweep-repeats box {ps} {rs} {qs} r s start m = left-repeats box rs r start m ∙ skipping-agree (noFarther box) (farthestFrom qs) (farthestFrom rs) (λ t a. right-repeats s t a) start ps
+sweep-repeats box {ps} {rs} {qs} r s start m = left-repeats box rs r start m ∙ skipping-agree (noFarther box) (farthestFrom qs) (farthestFrom rs) start ps (each-all _ (λ a t. right-repeats s t a) ps)

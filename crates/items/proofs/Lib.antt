@@ -5,3 +5,5 @@ pub mod NotBelowZero
 pub mod PointRuns
 pub mod Repeats
 pub mod Added
+pub mod NoneExactly
+pub mod WithoutTriangles

@@ -6,7 +6,7 @@ use Prim.Native.Nat.{ℕ}
 use borrow.Author.Tests.{eqb-true}
 use Rattle.coords.specs.Parts.{Run, run, mapRuns, isPoint, isLine, isFace, PointRunsOnly, ofKind, segmentEnds, verticesOf}
 use Rattle.primitives.specs.declared.Point.{Point}
-use Rattle.items.specs.Items.{point, pointItems, segmentItems, triangleItems, itemsOf}
+use Rattle.items.specs.Items.{point, pointItems, segmentItems, triangleItems, itemsOfKind, itemsOf}
 
 no-line : (kind : ℕ) → isPoint kind ≡ true → isLine kind ≡ false
 no-line kind e = rw (eqb-true kind 1 e)
@@ -24,6 +24,10 @@ only-points : (rs : List (Run Point)) → PointRunsOnly rs → ofKind isPoint po
 unfolding PointRunsOnly ofKind pointItems
 only-points [] h = refl
 only-points (run kind ps ∷ rs) h = rw (h .0, only-points rs (h .1)) (sym (map-append point ps (ofKind isPoint (λ cs. cs) rs)))
+
+-- and so no triangle
+pub no-triangles-of-points : (rs : List (Run Point)) → PointRunsOnly rs → itemsOfKind isFace triangleItems rs ≡ []
+no-triangles-of-points rs h = none-of-kind isFace triangleItems no-face rs h
 
 pub items-of-points : (rs : List (Run Point)) → PointRunsOnly rs → itemsOf rs ≡ map point (verticesOf rs)
 unfolding itemsOf verticesOf
