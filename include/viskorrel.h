@@ -44,8 +44,9 @@
  *   14  interpolation: there is a point or face, or no segment
  *   15  the floats or the table of that side are too short
  *   16  the output is too short, even where the answer is nothing
+ *   17  operations by the least distance: the rule is a number other than 1 or 2
  *
- * Where several hold, the first of this order is given: 1, 2; side 1's header (3 to 8, 9 for its first five bytes, 10, then 13), side 2's;
+ * Where several hold, the first of this order is given: 1, 2; 17; side 1's header (3 to 8, 9 for its first five bytes, 10, then 13), side 2's;
  * the geometries of side 1, of side 2 (of each 12, 9, 10, 9 for the SRID, 11, then its content); 14; 15 of side 1, of side 2; 16.
  */
 #ifndef VISKORREL_H
@@ -71,7 +72,7 @@ enum viskorrel_outcome {
 /* What an operation returns. A field is 0 where the outcome gives it no meaning. */
 typedef struct viskorrel_reply {
     uint32_t outcome;
-    uint32_t number;   /* of a refusal, 1 to 16 */
+    uint32_t number;   /* of a refusal, 1 to 17 */
     uint32_t side;     /* of a refusal, 0 to 2 */
     double value;      /* a distance that was answered; may be NaN, whose sign and payload mean nothing */
 } viskorrel_reply;
@@ -99,6 +100,10 @@ typedef struct viskorrel_root {
 #define VISKORREL_POINT_BYTES 37
 #define VISKORREL_LINE_BYTES 65
 
+/* The rules of the least distance: whether a segment that passes through a triangle touches it. LEAST DISTANCE says more. */
+#define VISKORREL_RULE_1 1
+#define VISKORREL_RULE_2 2
+
 /*
  * The lengths to lend for a blob: first is that of the floats, second that of the table.
  * Lent: the blob. Changed: nothing. Refusals: 3 to 12.
@@ -117,34 +122,38 @@ viskorrel_pair viskorrel_read(
 
 /*
  * LEAST DISTANCE. Each point, segment and triangle of a is measured against each of b, unless their boxes are no closer than the best so
- * far. A line of n vertices has n - 1 segments. Every ring, a hole too, is a filled face: a fan of triangles from its first vertex, none if it has under 3 vertices. A segment that passes through a
- * triangle is measured at its ends and at the triangle's edges. There is none where a or b has no point, segment or triangle.
+ * far. A line of n vertices has n - 1 segments. Every ring, a hole too, is a filled face: a fan of triangles from its first vertex, none if
+ * it has under 3 vertices. There is none where a or b has no point, segment or triangle.
+ *
+ * By rule 1 a segment that passes through a triangle is measured at its ends and at the triangle's edges. By rule 2 the point where it
+ * passes through is looked for first: where it is found, the distance is 0. The same holds of two triangles and each edge of one that passes
+ * through the other. Where neither blob has a triangle, both rules give the same.
  */
 
 /*
  * The least distance, in value. Nothing: there is none.
- * Lent: both blobs, a workspace for each. Changed: the workspaces. Refusals: 3 to 13, 15.
+ * Lent: both blobs, a workspace for each. Changed: the workspaces. Refusals: 3 to 13, 15, 17.
  */
 viskorrel_reply viskorrel_3d_distance(
-    const uint8_t *a, size_t a_length, const uint8_t *b, size_t b_length,
+    const uint8_t *a, size_t a_length, const uint8_t *b, size_t b_length, uint32_t rule,
     double *floats1, size_t floats1_length, uint32_t *table1, size_t table1_length,
     double *floats2, size_t floats2_length, uint32_t *table2, size_t table2_length);
 
 /*
  * Whether the least distance is at most d. No also where there is none, or where one of the two is NaN.
- * Lent: both blobs, a workspace for each. Changed: the workspaces. Refusals: 1, 3 to 13, 15.
+ * Lent: both blobs, a workspace for each. Changed: the workspaces. Refusals: 1, 3 to 13, 15, 17.
  */
 viskorrel_reply viskorrel_3d_dwithin(
-    const uint8_t *a, size_t a_length, const uint8_t *b, size_t b_length, double d,
+    const uint8_t *a, size_t a_length, const uint8_t *b, size_t b_length, double d, uint32_t rule,
     double *floats1, size_t floats1_length, uint32_t *table1, size_t table1_length,
     double *floats2, size_t floats2_length, uint32_t *table2, size_t table2_length);
 
 /*
  * Whether the least distance is 0. No also where there is none.
- * Lent: both blobs, a workspace for each. Changed: the workspaces. Refusals: 3 to 13, 15.
+ * Lent: both blobs, a workspace for each. Changed: the workspaces. Refusals: 3 to 13, 15, 17.
  */
 viskorrel_reply viskorrel_3d_intersects(
-    const uint8_t *a, size_t a_length, const uint8_t *b, size_t b_length,
+    const uint8_t *a, size_t a_length, const uint8_t *b, size_t b_length, uint32_t rule,
     double *floats1, size_t floats1_length, uint32_t *table1, size_t table1_length,
     double *floats2, size_t floats2_length, uint32_t *table2, size_t table2_length);
 
@@ -152,10 +161,10 @@ viskorrel_reply viskorrel_3d_intersects(
  * The point of a at the least distance, the first of several: a GeoPackage blob with the SRID of a, in the first 37 bytes of the output.
  * Nothing: there is none; the output is unchanged.
  * Lent: both blobs, a workspace for each, the output. Changed: the workspaces, and the first 37 bytes of the output.
- * Refusals: 3 to 13, 15, 16.
+ * Refusals: 3 to 13, 15 to 17.
  */
 viskorrel_reply viskorrel_3d_closest_point(
-    const uint8_t *a, size_t a_length, const uint8_t *b, size_t b_length,
+    const uint8_t *a, size_t a_length, const uint8_t *b, size_t b_length, uint32_t rule,
     double *floats1, size_t floats1_length, uint32_t *table1, size_t table1_length,
     double *floats2, size_t floats2_length, uint32_t *table2, size_t table2_length,
     uint8_t *output, size_t output_length);
@@ -164,10 +173,10 @@ viskorrel_reply viskorrel_3d_closest_point(
  * The line from the point of a to the point of b at the least distance, the first of several: a GeoPackage blob with the SRID of a, in
  * the first 65 bytes of the output. Nothing: there is none; the output is unchanged.
  * Lent: both blobs, a workspace for each, the output. Changed: the workspaces, and the first 65 bytes of the output.
- * Refusals: 3 to 13, 15, 16.
+ * Refusals: 3 to 13, 15 to 17.
  */
 viskorrel_reply viskorrel_3d_shortest_line(
-    const uint8_t *a, size_t a_length, const uint8_t *b, size_t b_length,
+    const uint8_t *a, size_t a_length, const uint8_t *b, size_t b_length, uint32_t rule,
     double *floats1, size_t floats1_length, uint32_t *table1, size_t table1_length,
     double *floats2, size_t floats2_length, uint32_t *table2, size_t table2_length,
     uint8_t *output, size_t output_length);

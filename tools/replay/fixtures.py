@@ -1,75 +1,17 @@
 """Writes crates/replay/data/fixtures: document 01's fixtures 4 to 14 and other calls, with the answers written by hand; m by document 02, 1/13.
+And crates/replay/data/rules: calls by pair rule 2, and by numbers that are no rule (document 02, 3/13).
 
-    fixtures.py            writes the file
-    fixtures.py --list     prints the number, operation and name of each record
+    fixtures.py            writes the files
+    fixtures.py --list     prints the file, number, operation and name of each record
 """
-import math
 import pathlib
 import sys
 
 sys.dont_write_bytecode = True
 
-from records import NO_SURFACE, NOTHING, YES, Call, Expected, blob, number, positions, refused
-from shapes import *
-
-CALLS = []
-NONE = Shape(b"")
-NAN, INF, LEAST = math.nan, math.inf, 5e-324
-ROOM = 1 << 18  # bytes of a file that the program can hold
-TAKES_NUMBER = ("dwithin", "dfully_within", "line_interpolate_point", "patch")
-
-
-def below(x):
-    return math.nextafter(x, -INF)
-
-
-def above(x):
-    return math.nextafter(x, INF)
-
-
-def expected(answer, srid):
-    """None, True or False, a number, one coordinate (a point), two (a line), or what is an Expected already."""
-    if isinstance(answer, Expected):
-        return answer
-    if answer is None or answer is False:
-        return NOTHING
-    if answer is True:
-        return YES
-    if isinstance(answer, tuple):
-        return blob(srid, answer if isinstance(answer[0], tuple) else (answer,))
-    return number(answer)
-
-
-def calls(name, a, b, *, srid=0, more=(0, 0, 0, 0, 0), **answers):
-    """A call for each operation named; of one that takes a number, for each pair of a number and an answer."""
-    for operation, answer in answers.items():
-        pairs = answer if operation in TAKES_NUMBER else [(0.0, answer)]
-        for argument, one in pairs:
-            CALLS.append(Call(name, operation, a, b, argument, expected(one, srid), more))
-
-
-def refusals(name, a, b, number, side, **options):
-    """The same refusal from every operation on two blobs."""
-    r = refused(number, side)
-    calls(
-        name, a, b, distance=r, max_distance=r, dwithin=[(1.0, r)], dfully_within=[(1.0, r)], intersects=r,
-        closest_point=r, shortest_line=r, longest_line=r, **options,
-    )
-
-
-def nothings(name, a, b):
-    """None and no from every operation on two blobs, however far."""
-    calls(
-        name, a, b, distance=None, max_distance=None, dwithin=[(INF, False)], dfully_within=[(INF, False)],
-        intersects=False, closest_point=None, shortest_line=None, longest_line=None,
-    )
-
-
-ORIGIN = point(0, 0, 0)
-FAR = point(3, 4, 12)
-XY = point_of_type(1, (1, 2), (1, 2, 0))
-TRIANGLE = [(0, 0, 0), (4, 0, 0), (0, 4, 0)]
-ROOT_5, ROOT_11, ROOT_14 = math.sqrt(5), math.sqrt(11), math.sqrt(14)
+import rules
+from calls import *
+from records import NO_SURFACE, positions
 
 
 def worked_examples():
@@ -264,23 +206,6 @@ def lent_memory():
         calls("16 where the answer is none", none, b, more=(0, 0, 0, 0, -1), **{operation: refused(16, 0)})
 
 
-# a blob, and the number with which it is refused as either side
-FAULTS = [
-    (raw("4750"), 3), (raw("47500001E61000"), 3), (gp(ORIGIN, version=1), 4), (gp(ORIGIN, version=1, flags=0xFF), 4),
-    (gp(ORIGIN, flags=0x21), 5), (gp(ORIGIN, flags=0xFF), 5), (gp(ORIGIN, flags=0x41), 6), (gp(ORIGIN, flags=0xDF), 6),
-    (gp(ORIGIN, flags=0x0B), 7), (gp(ORIGIN, flags=0x0D), 7), (gp(ORIGIN, flags=0x0F), 7),
-    (raw("4750000300000000" + 31 * "00"), 8), (raw("4750000300000000" + 32 * "00"), 9), (gp(NONE), 9), (NONE, 9),
-    (raw("47"), 9), (raw("02"), 9), (raw("01E90300"), 9), (raw("02E9030000"), 10), (cut(FAR, 1), 9),
-    (cut(line((0, 0, 0), (1, 0, 0)), 24), 9), (cut(face(TRIANGLE), 1), 9), (cut(with_srid(ORIGIN, 1), 25), 9),
-    (raw("01EA030000FFFFFFFF"), 9), (raw("01F0030000"), 11), (raw("01E8030000"), 11), (raw("01FA030000"), 11),
-    (raw("01F0030020"), 9), (collection(raw("02E9030000")), 10), (collection(raw("01F0030000")), 11),
-    (cut(collection(FAR, FAR), 29), 9), (nested(33, FAR), 12),
-]
-# fails the top Z test
-FLAT = [
-    XY, point_of_type(2001, (1, 2, 7), (1, 2, 0, 7)), point_of_type(0x40000001, (1, 2, 7), (1, 2, 0, 7)),
-    point_of_type(4001, (1, 2), (1, 2, 0)), Shape(b"\x01" + u32(7) + u32(1) + FAR.data, FAR.runs),
-]
 # passes it, and is read as (1, 2, 3) or (1, 2, 0) with this m
 WITH_Z = [
     (0x80000001, (1, 2, 3), 3, 0), (0x80000000 + 2001, (1, 2, 7), 0, 7), (3001, (1, 2, 3, 9), 3, 9),
@@ -424,7 +349,7 @@ def lengths():
         calls(name, shape, NONE, sizes=positions(floats, numbers))
 
 
-def main():
+def by_rule_1():
     worked_examples()
     ties()
     skips()
@@ -440,17 +365,22 @@ def main():
     interpolations()
     patches()
     lengths()
-    if sys.argv[1:] == ["--list"]:
-        for i, call in enumerate(CALLS):
-            print(i, call.operation, call.name)
-        return
+
+
+def main():
     here = pathlib.Path(__file__).resolve().parent
-    path = here.parent.parent / "crates" / "replay" / "data" / "fixtures"
-    data = b"".join(call.record() for call in CALLS)
-    if len(data) > ROOM:
-        sys.exit(f"{len(data)} bytes; the program holds {ROOM}")
-    path.write_bytes(data)
-    print(len(CALLS), "records written")
+    for file, made in (("fixtures", by_rule_1), ("rules", rules.all_calls)):
+        CALLS.clear()
+        made()
+        if sys.argv[1:] == ["--list"]:
+            for i, call in enumerate(CALLS):
+                print(file, i, call.operation, call.name)
+            continue
+        data = b"".join(call.record() for call in CALLS)
+        if len(data) > ROOM:
+            sys.exit(f"{len(data)} bytes; the program holds {ROOM}")
+        (here.parent.parent / "crates" / "replay" / "data" / file).write_bytes(data)
+        print(file, len(CALLS), "records written")
 
 
 main()

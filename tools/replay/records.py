@@ -11,6 +11,7 @@ OPERATIONS = [
 ]
 OUTPUT = {"closest_point": 37, "shortest_line": 65, "longest_line": 65, "line_interpolate_point": 37}
 WORKSPACES = {"line_interpolate_point": 1, "patch": 0, "sizes": 0}
+BY_RULE = ("distance", "dwithin", "intersects", "closest_point", "shortest_line")
 
 
 def pattern(x):
@@ -61,6 +62,7 @@ class Call:
     argument: float
     expected: Expected
     more: tuple = (0, 0, 0, 0, 0)
+    rule: int = 1  # of an operation that takes one
 
     def record(self):
         sides = [self.a, self.b][: WORKSPACES.get(self.operation, 2)]
@@ -72,8 +74,9 @@ class Call:
         held = (held + [([], []), ([], [])])[:2]
         words = [OPERATIONS.index(self.operation), len(self.a.data), len(self.b.data), lent[4], len(e.written)]
         words += lent[:4] + [len(x) for pair in held for x in pair] + [e.case, e.number, e.side]
+        words.append(self.rule if self.operation in BY_RULE else 0)
         argument = self.argument if self.operation == "patch" else pattern(self.argument)
-        data = struct.pack("<16I3Q", *words, argument, e.first, e.second)
+        data = struct.pack("<17I3Q", *words, argument, e.first, e.second)
         data += self.a.data + self.b.data + e.written
         for ordinates, table in held:
             data += b"".join(struct.pack("<Q", pattern(v)) for v in ordinates)

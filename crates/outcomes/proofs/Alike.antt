@@ -23,7 +23,7 @@ use Rattle.primitives.specs.declared.Witness.{Witness}
 use Rattle.items.specs.Items.{itemsOf}
 use Rattle.operands.specs.Operands.{Workspaces, workspaceChecks, operandChecks, lentChecks}
 use Rattle.outcomes.specs.Answers.{Report, answering}
-use Rattle.outcomes.specs.Operations.{outcome, toleranceChecks, outputChecks, unless, vertexPoints, itemsOfBlob, farthestPair, closestPair, distanceValue, withinValue, touchingValue, blobValue, lineAfter, pointAfter, maxDistance, fullyWithin, lineChecks, longestLine, distance, within, intersects, closestPoint, shortestLine}
+use Rattle.outcomes.specs.Operations.{outcome, toleranceChecks, ruleChecks, outputChecks, unless, vertexPoints, itemsOfBlob, farthestPair, closestPair, distanceValue, withinValue, touchingValue, blobValue, lineAfter, pointAfter, maxDistance, fullyWithin, lineChecks, longestLine, distance, within, intersects, closestPoint, shortestLine}
 use Rattle.outcomes.specs.Alike.{MeasuredAlike, SameZTest, AnswersAlike, PairsAnsweredAlike}
 
 -- ---- what is ignored of a blob
@@ -84,9 +84,9 @@ module _ (a a′ b b′ : List ℕ) (first : MeasuredAlike a a′) (first-z : Sa
   unfolding farthestPair
   farthest-alike = rw (vertices-alike a a′ first, vertices-alike b b′ second)
 
-  closest-alike : closestPair a b ≡ closestPair a′ b′
+  closest-alike : (rule : ℕ) → closestPair rule a b ≡ closestPair rule a′ b′
   unfolding closestPair
-  closest-alike = rw (first .points, second .points)
+  closest-alike rule = rw (first .points, second .points)
 
   module _ (w : Workspaces) where
     lent-alike : firstOf (lentChecks a b w) ≡ firstOf (lentChecks a′ b′ w)
@@ -116,25 +116,30 @@ module _ (a a′ b b′ : List ℕ) (first : MeasuredAlike a a′) (first-z : Sa
     unfolding longestLine
     longest-line-alike lent = alike _ _ _ _ _ _ _ _ _ _ (line-alike lent) (ap (λ (p : Option Witness). answering (blobValue p)) farthest-alike) (rw (first .srid, farthest-alike))
 
-    pub distance-alike : AnswersAlike (distance a b w) (distance a′ b′ w)
-    unfolding distance
-    distance-alike = alike _ _ _ _ _ _ _ _ _ _ lent-alike (ap (λ (p : Option Witness). answering (distanceValue p)) closest-alike) refl
+    module _ (rule : ℕ) where
+      -- with the rule's check before others
+      rule-alike : (cs cs′ : List (Check Refusal)) → firstOf cs ≡ firstOf cs′ → firstOf (ruleChecks rule ++ cs) ≡ firstOf (ruleChecks rule ++ cs′)
+      rule-alike cs cs′ e = two-alike (ruleChecks rule) _ cs cs′ refl e
 
-    pub within-alike : (d : Float) → AnswersAlike (within a b d w) (within a′ b′ d w)
-    unfolding within
-    within-alike d = alike _ _ _ _ _ _ _ _ _ _ (two-alike (toleranceChecks d) _ _ _ refl lent-alike) (ap (λ (p : Option Witness). answering (withinValue d p)) closest-alike) refl
+      pub distance-alike : AnswersAlike (distance a b rule w) (distance a′ b′ rule w)
+      unfolding distance
+      distance-alike = alike _ _ _ _ _ _ _ _ _ _ (rule-alike _ _ lent-alike) (ap (λ (p : Option Witness). answering (distanceValue p)) (closest-alike rule)) refl
 
-    pub intersects-alike : AnswersAlike (intersects a b w) (intersects a′ b′ w)
-    unfolding intersects
-    intersects-alike = alike _ _ _ _ _ _ _ _ _ _ lent-alike (ap (λ (p : Option Witness). answering (touchingValue p)) closest-alike) refl
+      pub within-alike : (d : Float) → AnswersAlike (within a b d rule w) (within a′ b′ d rule w)
+      unfolding within
+      within-alike d = alike _ _ _ _ _ _ _ _ _ _ (two-alike (toleranceChecks d) _ _ _ refl (rule-alike _ _ lent-alike)) (ap (λ (p : Option Witness). answering (withinValue d p)) (closest-alike rule)) refl
 
-    pub closest-point-alike : (lent : List ℕ) → AnswersAlike (closestPoint a b w lent) (closestPoint a′ b′ w lent)
-    unfolding closestPoint
-    closest-point-alike lent = alike _ _ _ _ _ _ _ _ _ _ (two-alike _ _ (outputChecks pointBytes lent) _ lent-alike refl) (ap (λ (p : Option Witness). answering (blobValue p)) closest-alike) (rw (first .srid, closest-alike))
+      pub intersects-alike : AnswersAlike (intersects a b rule w) (intersects a′ b′ rule w)
+      unfolding intersects
+      intersects-alike = alike _ _ _ _ _ _ _ _ _ _ (rule-alike _ _ lent-alike) (ap (λ (p : Option Witness). answering (touchingValue p)) (closest-alike rule)) refl
 
-    pub shortest-line-alike : (lent : List ℕ) → AnswersAlike (shortestLine a b w lent) (shortestLine a′ b′ w lent)
-    unfolding shortestLine
-    shortest-line-alike lent = alike _ _ _ _ _ _ _ _ _ _ (line-alike lent) (ap (λ (p : Option Witness). answering (blobValue p)) closest-alike) (rw (first .srid, closest-alike))
+      pub closest-point-alike : (lent : List ℕ) → AnswersAlike (closestPoint a b rule w lent) (closestPoint a′ b′ rule w lent)
+      unfolding closestPoint
+      closest-point-alike lent = alike _ _ _ _ _ _ _ _ _ _ (rule-alike _ _ (two-alike _ _ (outputChecks pointBytes lent) _ lent-alike refl)) (ap (λ (p : Option Witness). answering (blobValue p)) (closest-alike rule)) (rw (first .srid, closest-alike rule))
+
+      pub shortest-line-alike : (lent : List ℕ) → AnswersAlike (shortestLine a b rule w lent) (shortestLine a′ b′ rule w lent)
+      unfolding shortestLine
+      shortest-line-alike lent = alike _ _ _ _ _ _ _ _ _ _ (rule-alike _ _ (line-alike lent)) (ap (λ (p : Option Witness). answering (blobValue p)) (closest-alike rule)) (rw (first .srid, closest-alike rule))
 
 -- ---- all of them
 
@@ -144,11 +149,11 @@ pairs-answered-alike a a′ b b′ p y q z =
       max-distance = max-distance-alike a a′ b b′ p y q z;
       fully-within = λ d w. fully-within-alike a a′ b b′ p y q z w d;
       longest-line = longest-line-alike a a′ b b′ p y q z;
-      least-distance = distance-alike a a′ b b′ p y q z;
-      is-within = λ d w. within-alike a a′ b b′ p y q z w d;
-      intersection = intersects-alike a a′ b b′ p y q z;
-      closest-point = closest-point-alike a a′ b b′ p y q z;
-      shortest-line = shortest-line-alike a a′ b b′ p y q z;
+      least-distance = λ rule w. distance-alike a a′ b b′ p y q z w rule;
+      is-within = λ d rule w. within-alike a a′ b b′ p y q z w rule d;
+      intersection = λ rule w. intersects-alike a a′ b b′ p y q z w rule;
+      closest-point = λ rule w. closest-point-alike a a′ b b′ p y q z w rule;
+      shortest-line = λ rule w. shortest-line-alike a a′ b b′ p y q z w rule;
     }
 
 -- Blobs that differ on each side in what is ignored alone get the same report and output from every measuring operation on two blobs.

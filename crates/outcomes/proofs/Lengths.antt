@@ -9,8 +9,7 @@ use Rattle.refusals.specs.Checks.{firstOf}
 use Rattle.refusals.specs.declared.Refusal.{Refusal}
 use Rattle.operands.specs.Operands.{Workspaces, lentChecks}
 use Rattle.outcomes.specs.Answers.{Report}
-use Rattle.outcomes.specs.Operations.{outcome, toleranceChecks, outputChecks, unless, maxDistance, fullyWithin, lineChecks, longestLine, distance, within, intersects, closestPoint, shortestLine}
-use Rattle.outcomes.proofs.RefusedExactly.{line-refused-by}
+use Rattle.outcomes.specs.Operations.{outcome, toleranceChecks, ruleChecks, outputChecks, unless, maxDistance, fullyWithin, lineChecks, longestLine, distance, within, intersects, closestPoint, shortestLine}
 
 pub record SameLengths (w v : Workspaces) : Type 0 where
   pub floats1 : length (w .floats1) ≡ length (v .floats1)
@@ -37,42 +36,42 @@ module _ (a b : List ℕ) (w v : Workspaces) (same : SameLengths w v) where
   same-tolerance : (d : Float) → firstOf (toleranceChecks d ++ lentChecks a b w) ≡ firstOf (toleranceChecks d ++ lentChecks a b v)
   same-tolerance d = rw same-checks
 
-  same-point : (lent lent′ : List ℕ) → length lent ≡ length lent′ → firstOf (lentChecks a b w ++ outputChecks 37 lent) ≡ firstOf (lentChecks a b v ++ outputChecks 37 lent′)
-  unfolding outputChecks
-  same-point lent lent′ e = rw (same-checks, e)
-
-  same-line : (lent lent′ : List ℕ) → length lent ≡ length lent′ → firstOf (lineChecks a b w lent) ≡ firstOf (lineChecks a b v lent′)
-  same-line lent lent′ e = rw (line-refused-by a b w lent, line-refused-by a b v lent′, same-checks, e)
+  same-line : (lent lent′ : List ℕ) → length lent ≡ length lent′ → lineChecks a b w lent ≡ lineChecks a b v lent′
+  unfolding lineChecks outputChecks
+  same-line lent lent′ e = rw (same-checks, e)
 
   pub same-max-distance : maxDistance a b w .report ≡ maxDistance a b v .report
   unfolding maxDistance
   same-max-distance = same-report _ _ _ _ _ _ _ _ _ _ _ same-lent
 
-  pub same-distance : distance a b w .report ≡ distance a b v .report
-  unfolding distance
-  same-distance = same-report _ _ _ _ _ _ _ _ _ _ _ same-lent
-
-  pub same-intersects : intersects a b w .report ≡ intersects a b v .report
-  unfolding intersects
-  same-intersects = same-report _ _ _ _ _ _ _ _ _ _ _ same-lent
-
   pub same-fully-within : (d : Float) → fullyWithin a b d w .report ≡ fullyWithin a b d v .report
   unfolding fullyWithin
   same-fully-within d = same-report _ _ _ _ _ _ _ _ _ _ _ (same-tolerance d)
 
-  pub same-within : (d : Float) → within a b d w .report ≡ within a b d v .report
-  unfolding within
-  same-within d = same-report _ _ _ _ _ _ _ _ _ _ _ (same-tolerance d)
+  pub same-longest-line : (lent lent′ : List ℕ) → length lent ≡ length lent′ → longestLine a b w lent .report ≡ longestLine a b v lent′ .report
+  unfolding longestLine
+  same-longest-line lent lent′ long = same-report _ _ _ _ _ _ _ _ _ _ _ (ap firstOf (same-line lent lent′ long))
 
-  module _ (lent lent′ : List ℕ) (long : length lent ≡ length lent′) where
-    pub same-longest-line : longestLine a b w lent .report ≡ longestLine a b v lent′ .report
-    unfolding longestLine
-    same-longest-line = same-report _ _ _ _ _ _ _ _ _ _ _ (same-line lent lent′ long)
+  module _ (rule : ℕ) where
+    same-rule : firstOf (ruleChecks rule ++ lentChecks a b w) ≡ firstOf (ruleChecks rule ++ lentChecks a b v)
+    same-rule = rw same-checks
 
-    pub same-shortest-line : shortestLine a b w lent .report ≡ shortestLine a b v lent′ .report
+    pub same-distance : distance a b rule w .report ≡ distance a b rule v .report
+    unfolding distance
+    same-distance = same-report _ _ _ _ _ _ _ _ _ _ _ same-rule
+
+    pub same-intersects : intersects a b rule w .report ≡ intersects a b rule v .report
+    unfolding intersects
+    same-intersects = same-report _ _ _ _ _ _ _ _ _ _ _ same-rule
+
+    pub same-within : (d : Float) → within a b d rule w .report ≡ within a b d rule v .report
+    unfolding within
+    same-within d = same-report _ _ _ _ _ _ _ _ _ _ _ (rw same-checks)
+
+    pub same-shortest-line : (lent lent′ : List ℕ) → length lent ≡ length lent′ → shortestLine a b rule w lent .report ≡ shortestLine a b rule v lent′ .report
     unfolding shortestLine
-    same-shortest-line = same-report _ _ _ _ _ _ _ _ _ _ _ (same-line lent lent′ long)
+    same-shortest-line lent lent′ long = same-report _ _ _ _ _ _ _ _ _ _ _ (rw (same-line lent lent′ long))
 
-    pub same-closest-point : closestPoint a b w lent .report ≡ closestPoint a b v lent′ .report
-    unfolding closestPoint
-    same-closest-point = same-report _ _ _ _ _ _ _ _ _ _ _ (same-point lent lent′ long)
+    pub same-closest-point : (lent lent′ : List ℕ) → length lent ≡ length lent′ → closestPoint a b rule w lent .report ≡ closestPoint a b rule v lent′ .report
+    unfolding closestPoint outputChecks
+    same-closest-point lent lent′ long = same-report _ _ _ _ _ _ _ _ _ _ _ (rw (same-checks, long))

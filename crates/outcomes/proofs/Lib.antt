@@ -8,3 +8,5 @@ pub mod OwnSrid
 pub mod FirstExtremeLine
 pub mod Alike
 pub mod WithoutM
+pub mod Rules
+pub mod ClosestAnswers

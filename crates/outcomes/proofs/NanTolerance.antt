@@ -6,12 +6,13 @@ use mathlib.Core.Option.{Option, none, some, orElse}
 use Prim.Native.Nat.{ℕ}
 use lib.Ieee.{Float, nan, inf, fin, lt, le}
 use Rattle.ieee754.specs.MinMax.{positiveZero}
-use Rattle.refusals.specs.Checks.{firstOf}
+use Rattle.refusals.specs.Checks.{Check, firstOf}
+use Rattle.refusals.specs.declared.Refusal.{Refusal}
 use Rattle.refusals.proofs.Sides.{first-of-two, first-of-one}
 use Rattle.primitives.specs.declared.Witness.{Witness}
 use Rattle.operands.specs.Operands.{Workspaces, lentChecks}
 use Rattle.outcomes.specs.Answers.{decided, answering}
-use Rattle.outcomes.specs.Operations.{noSide, toleranceChecks, unless, farthestPair, closestPair, withinValue, fullyWithin, within}
+use Rattle.outcomes.specs.Operations.{noSide, toleranceChecks, ruleChecks, unless, farthestPair, closestPair, withinValue, fullyWithin, within}
 
 no-le-nan : (x : Float) → le x nan ≡ false
 unfolding le
@@ -24,15 +25,16 @@ unfolding withinValue
 nan-decides none = refl
 nan-decides (some x) = rw (no-le-nan (x .d))
 
-module _ (a b : List ℕ) (w : Workspaces) (free : firstOf (lentChecks a b w) ≡ none) where
-  nan-taken : firstOf (toleranceChecks nan ++ lentChecks a b w) ≡ none
-  unfolding toleranceChecks lt orElse
-  nan-taken = first-of-two (toleranceChecks nan) (lentChecks a b w) ∙ rw (first-of-one (noSide 1) (lt nan positiveZero), free)
+-- checks that refuse nothing refuse nothing with a NaN tolerance before them
+nan-taken : (cs : List (Check Refusal)) → firstOf cs ≡ none → firstOf (toleranceChecks nan ++ cs) ≡ none
+unfolding toleranceChecks lt orElse
+nan-taken cs free = first-of-two (toleranceChecks nan) cs ∙ rw (first-of-one (noSide 1) (lt nan positiveZero), free)
 
-  pub nan-not-fully-within : fullyWithin a b nan w .report ≡ answering (decided false)
+module _ (a b : List ℕ) (w : Workspaces) where
+  pub nan-not-fully-within : firstOf (lentChecks a b w) ≡ none → fullyWithin a b nan w .report ≡ answering (decided false)
   unfolding fullyWithin unless
-  nan-not-fully-within = rw nan-taken (nan-decides (farthestPair a b))
+  nan-not-fully-within free = rw (nan-taken (lentChecks a b w) free) (nan-decides (farthestPair a b))
 
-  pub nan-not-within : within a b nan w .report ≡ answering (decided false)
+  pub nan-not-within : (rule : ℕ) → firstOf (ruleChecks rule ++ lentChecks a b w) ≡ none → within a b nan rule w .report ≡ answering (decided false)
   unfolding within unless
-  nan-not-within = rw nan-taken (nan-decides (closestPair a b))
+  nan-not-within rule free = rw (nan-taken (ruleChecks rule ++ lentChecks a b w) free) (nan-decides (closestPair rule a b))

@@ -6,12 +6,13 @@ use Prim.Native.Nat.{ℕ, _^_, _<_}
 use lib.ListN.{getD, drop}
 use Rattle.refusals.specs.Checks.{firstOf}
 use Rattle.gpb.specs.Header.{sridOf, headerOf3d}
+use Rattle.gpb.specs.Written.{pointBytes}
 use Rattle.gpb.specs.declared.Header.the-variants as header
 use Rattle.gpb.proofs.Bounds.{srid-fits}
 use Rattle.gpb.proofs.ReadBack.{point-header-back, line-header-back}
 use Rattle.primitives.specs.declared.Witness.{Witness}
 use Rattle.operands.specs.Operands.{Workspaces, lentChecks}
-use Rattle.outcomes.specs.Operations.{unless, outputChecks, farthestPair, closestPair, lineAfter, pointAfter, lineChecks, longestLine, closestPoint, shortestLine}
+use Rattle.outcomes.specs.Operations.{unless, ruleChecks, outputChecks, farthestPair, closestPair, lineAfter, pointAfter, lineChecks, longestLine, closestPoint, shortestLine}
 
 line-srid : (srid : ℕ) (x : Witness) (lent : List ℕ) → srid < 2 ^ 32 → headerOf3d (lineAfter srid (some x) lent) ≡ header.Found 8 1002 srid
 unfolding lineAfter
@@ -27,10 +28,11 @@ module _ (a b : List ℕ) (w : Workspaces) (lent : List ℕ) (x : Witness) (byte
   unfolding longestLine unless
   longest-line-srid e p = rw (e, p) (line-srid (sridOf a) x lent (srid-fits a bytes))
 
-  pub shortest-line-srid : firstOf (lineChecks a b w lent) ≡ none → closestPair a b ≡ some x → headerOf3d (shortestLine a b w lent .output) ≡ header.Found 8 1002 (sridOf a)
-  unfolding shortestLine unless
-  shortest-line-srid e p = rw (e, p) (line-srid (sridOf a) x lent (srid-fits a bytes))
+  module _ (rule : ℕ) where
+    pub shortest-line-srid : firstOf (ruleChecks rule ++ lineChecks a b w lent) ≡ none → closestPair rule a b ≡ some x → headerOf3d (shortestLine a b rule w lent .output) ≡ header.Found 8 1002 (sridOf a)
+    unfolding shortestLine unless
+    shortest-line-srid e p = rw (e, p) (line-srid (sridOf a) x lent (srid-fits a bytes))
 
-  pub closest-point-srid : firstOf (lentChecks a b w ++ outputChecks 37 lent) ≡ none → closestPair a b ≡ some x → headerOf3d (closestPoint a b w lent .output) ≡ header.Found 8 1001 (sridOf a)
-  unfolding closestPoint unless
-  closest-point-srid e p = rw (e, p) (point-srid (sridOf a) x lent (srid-fits a bytes))
+    pub closest-point-srid : firstOf (ruleChecks rule ++ (lentChecks a b w ++ outputChecks pointBytes lent)) ≡ none → closestPair rule a b ≡ some x → headerOf3d (closestPoint a b rule w lent .output) ≡ header.Found 8 1001 (sridOf a)
+    unfolding closestPoint unless
+    closest-point-srid e p = rw (e, p) (point-srid (sridOf a) x lent (srid-fits a bytes))

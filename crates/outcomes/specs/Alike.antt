@@ -30,16 +30,17 @@ pub record AnswersAlike (o p : Outcome) : Type 0 where
   pub report : o .report ≡ p .report
   pub output : o .output ≡ p .output
 
--- every measuring operation on two blobs answers a and b as it answers a′ and b′, where both calls are lent the same memory, whatever it is
+-- every measuring operation on two blobs answers a and b as it answers a′ and b′, where both calls name the same rule and are lent the same memory, whatever
+-- these are
 pub record PairsAnsweredAlike (a b a′ b′ : List ℕ) : Type 0 where
   pub max-distance : (w : Workspaces) → AnswersAlike (maxDistance a b w) (maxDistance a′ b′ w)
   pub fully-within : (d : Float) (w : Workspaces) → AnswersAlike (fullyWithin a b d w) (fullyWithin a′ b′ d w)
   pub longest-line : (w : Workspaces) (output : List ℕ) → AnswersAlike (longestLine a b w output) (longestLine a′ b′ w output)
-  pub least-distance : (w : Workspaces) → AnswersAlike (distance a b w) (distance a′ b′ w)
-  pub is-within : (d : Float) (w : Workspaces) → AnswersAlike (within a b d w) (within a′ b′ d w)
-  pub intersection : (w : Workspaces) → AnswersAlike (intersects a b w) (intersects a′ b′ w)
-  pub closest-point : (w : Workspaces) (output : List ℕ) → AnswersAlike (closestPoint a b w output) (closestPoint a′ b′ w output)
-  pub shortest-line : (w : Workspaces) (output : List ℕ) → AnswersAlike (shortestLine a b w output) (shortestLine a′ b′ w output)
+  pub least-distance : (rule : ℕ) (w : Workspaces) → AnswersAlike (distance a b rule w) (distance a′ b′ rule w)
+  pub is-within : (d : Float) (rule : ℕ) (w : Workspaces) → AnswersAlike (within a b d rule w) (within a′ b′ d rule w)
+  pub intersection : (rule : ℕ) (w : Workspaces) → AnswersAlike (intersects a b rule w) (intersects a′ b′ rule w)
+  pub closest-point : (rule : ℕ) (w : Workspaces) (output : List ℕ) → AnswersAlike (closestPoint a b rule w output) (closestPoint a′ b′ rule w output)
+  pub shortest-line : (rule : ℕ) (w : Workspaces) (output : List ℕ) → AnswersAlike (shortestLine a b rule w output) (shortestLine a′ b′ rule w output)
 
 -- x, y and z of a coordinate stay, its m becomes 0
 unfoldable pub withoutM : Coordinate → Coordinate

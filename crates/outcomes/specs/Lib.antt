@@ -3,4 +3,5 @@ pub mod Lent
 pub mod Operations
 pub mod ThirdProperty
 pub mod Alike
+pub mod Rules
 pub mod Inner

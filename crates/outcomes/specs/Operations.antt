@@ -1,11 +1,12 @@
--- The outcome of each operation for every input: report, workspaces, output (document 01, "What the operations say" and the table).
+-- The outcome of each operation for every input: report, workspaces, output (document 01, "What the operations say" and the table; document 02, 3/13: the rule
+-- by which the closest sweep pairs items, 1 or 2).
 -- Undecided is only the payload, sign included, of a NaN in a workspace or in an answered number: the model of floats has one NaN. Definitions only.
 use Prim.Native.Nat.{ℕ}
 use mathlib.Core.List.{List, [], _∷_, _++_, map}
-use mathlib.Core.Bool.{Bool, false}
+use mathlib.Core.Bool.{Bool, false, cond, not, _||_}
 use mathlib.Core.Option.{Option, none, some}
 use lib.ListN.{length, drop}
-use lib.Dec.{ltb}
+use lib.Dec.{ltb, eqb}
 use lib.Ieee.{Float, lt, le, eq}
 use Rattle.ieee754.specs.MinMax.{positiveZero}
 use Rattle.refusals.specs.Checks.{Check, check, firstOf}
@@ -22,6 +23,7 @@ use Rattle.operands.specs.Operands.{Workspaces, lentChecks, filled}
 use Rattle.extremes.specs.Farthest.{farthestOf}
 use Rattle.items.specs.Items.{Item, itemsOf}
 use Rattle.items.specs.Closest.{closestOf}
+use Rattle.crossings.specs.Closest.{closestByRule2}
 use Rattle.outcomes.specs.Answers.{Value, number, decided, blob, nothing, Report, refusing, answering}
 
 -- what a call answers and leaves: a report, both workspaces, the output
@@ -41,6 +43,10 @@ noSide n = record { number = n; side = 0 }
 -- 1: d < 0
 unfoldable pub toleranceChecks : Float → List (Check Refusal)
 toleranceChecks d = check (noSide 1) (lt d positiveZero) ∷ []
+
+-- 17: a rule number other than 1 or 2, after 1 (document 02, 3/13)
+unfoldable pub ruleChecks : ℕ → List (Check Refusal)
+ruleChecks rule = check (noSide 17) (not (eqb rule 1 || eqb rule 2)) ∷ []
 
 -- 16: output under so many bytes, even where the answer is none
 unfoldable pub outputChecks : ℕ → List ℕ → List (Check Refusal)
@@ -70,8 +76,12 @@ farthestPair a b = farthestOf (vertexPoints a) (vertexPoints b)
 abbrev pub itemsOfBlob : List ℕ → List Item
 itemsOfBlob s = itemsOf (mapRuns pointOf (runsOfBlob s))
 
-unfoldable pub closestPair : List ℕ → List ℕ → Option Witness
-closestPair a b = closestOf (itemsOfBlob a) (itemsOfBlob b)
+-- by rule 2 its own sweep (document 02, 3/13), by every other number that of document 01: numbers other than 1 and 2 are refused
+unfoldable pub closestByRule : ℕ → List Item → List Item → Option Witness
+closestByRule rule ls rs = cond (eqb rule 2) (closestByRule2 ls rs) (closestOf ls rs)
+
+unfoldable pub closestPair : ℕ → List ℕ → List ℕ → Option Witness
+closestPair rule a b = closestByRule rule (itemsOfBlob a) (itemsOfBlob b)
 
 -- ---- values
 
@@ -130,31 +140,31 @@ longestLine a b w output =
     (outcome (answering (blobValue (farthestPair a b))) (filled a b w) (lineAfter (sridOf a) (farthestPair a b) output)) w output
 
 -- st_3d_distance
-unfoldable pub distance : List ℕ → List ℕ → Workspaces → Outcome
-distance a b w =
-    unless (firstOf (lentChecks a b w))
-    (outcome (answering (distanceValue (closestPair a b))) (filled a b w) []) w []
+unfoldable pub distance : List ℕ → List ℕ → ℕ → Workspaces → Outcome
+distance a b rule w =
+    unless (firstOf (ruleChecks rule ++ lentChecks a b w))
+    (outcome (answering (distanceValue (closestPair rule a b))) (filled a b w) []) w []
 
 -- st_3d_dwithin
-unfoldable pub within : List ℕ → List ℕ → Float → Workspaces → Outcome
-within a b d w =
-    unless (firstOf (toleranceChecks d ++ lentChecks a b w))
-    (outcome (answering (withinValue d (closestPair a b))) (filled a b w) []) w []
+unfoldable pub within : List ℕ → List ℕ → Float → ℕ → Workspaces → Outcome
+within a b d rule w =
+    unless (firstOf (toleranceChecks d ++ (ruleChecks rule ++ lentChecks a b w)))
+    (outcome (answering (withinValue d (closestPair rule a b))) (filled a b w) []) w []
 
 -- st_3d_intersects
-unfoldable pub intersects : List ℕ → List ℕ → Workspaces → Outcome
-intersects a b w =
-    unless (firstOf (lentChecks a b w))
-    (outcome (answering (touchingValue (closestPair a b))) (filled a b w) []) w []
+unfoldable pub intersects : List ℕ → List ℕ → ℕ → Workspaces → Outcome
+intersects a b rule w =
+    unless (firstOf (ruleChecks rule ++ lentChecks a b w))
+    (outcome (answering (touchingValue (closestPair rule a b))) (filled a b w) []) w []
 
 -- st_3d_closest_point; the SRID is A's only
-unfoldable pub closestPoint : List ℕ → List ℕ → Workspaces → List ℕ → Outcome
-closestPoint a b w output =
-    unless (firstOf (lentChecks a b w ++ outputChecks pointBytes output))
-    (outcome (answering (blobValue (closestPair a b))) (filled a b w) (pointAfter (sridOf a) (closestPair a b) output)) w output
+unfoldable pub closestPoint : List ℕ → List ℕ → ℕ → Workspaces → List ℕ → Outcome
+closestPoint a b rule w output =
+    unless (firstOf (ruleChecks rule ++ (lentChecks a b w ++ outputChecks pointBytes output)))
+    (outcome (answering (blobValue (closestPair rule a b))) (filled a b w) (pointAfter (sridOf a) (closestPair rule a b) output)) w output
 
 -- st_3d_shortest_line; the SRID is A's only
-unfoldable pub shortestLine : List ℕ → List ℕ → Workspaces → List ℕ → Outcome
-shortestLine a b w output =
-    unless (firstOf (lineChecks a b w output))
-    (outcome (answering (blobValue (closestPair a b))) (filled a b w) (lineAfter (sridOf a) (closestPair a b) output)) w output
+unfoldable pub shortestLine : List ℕ → List ℕ → ℕ → Workspaces → List ℕ → Outcome
+shortestLine a b rule w output =
+    unless (firstOf (ruleChecks rule ++ lineChecks a b w output))
+    (outcome (answering (blobValue (closestPair rule a b))) (filled a b w) (lineAfter (sridOf a) (closestPair rule a b) output)) w output

@@ -1,7 +1,8 @@
--- The third property, over all pairs of vertices (document 01, "Words of the third property"). Definitions only.
+-- The third property, over all pairs of vertices (document 01, "Words of the third property"; of the shortest line by either rule of document 02, 3/13).
+-- Definitions only.
 use Prim.Native.Nat.{ℕ}
 use mathlib.Core.Path.{_≡_}
-use mathlib.Core.List.{List, [], _∷_}
+use mathlib.Core.List.{List, [], _∷_, _++_}
 use mathlib.Core.Bool.{Bool}
 use mathlib.Core.Option.{none}
 use lib.ListN.{take}
@@ -16,7 +17,7 @@ use Rattle.blob.specs.Blob.{walkOfBlob, runsOfBlob}
 use Rattle.extremes.specs.Pairs.{Pair}
 use Rattle.extremes.specs.Extreme.{distanceOf, atMost, atLeast, Holds}
 use Rattle.operands.specs.Operands.{Workspaces}
-use Rattle.outcomes.specs.Operations.{verticesOfBlob, lineChecks}
+use Rattle.outcomes.specs.Operations.{verticesOfBlob, ruleChecks, lineChecks}
 
 -- x, y, z have the same bits
 pub record SameBits (c d : Coordinate) : Type 0 where
@@ -56,7 +57,7 @@ module _ {R : Type 0} (noLine aLine : R) where
   pub record LongestOfAll (a b : List ℕ) (w : Workspaces) (before : List ℕ) (told : R) (output : List ℕ) : Type 0 where
     pub first-extreme-line : firstOf (lineChecks a b w before) ≡ none → FirstExtremeLine atMost a b told output
 
-  -- of an accepted shortest-line call whose two blobs hold point runs only
-  pub record ShortestOfPoints (a b : List ℕ) (w : Workspaces) (before : List ℕ) (told : R) (output : List ℕ) : Type 0 where
-    pub first-extreme-line : firstOf (lineChecks a b w before) ≡ none → PointRunsOnly (runsOfBlob a) → PointRunsOnly (runsOfBlob b)
+  -- of an accepted shortest-line call, by rule 1 or 2, whose two blobs hold point runs only
+  pub record ShortestOfPoints (a b : List ℕ) (rule : ℕ) (w : Workspaces) (before : List ℕ) (told : R) (output : List ℕ) : Type 0 where
+    pub first-extreme-line : firstOf (ruleChecks rule ++ lineChecks a b w before) ≡ none → PointRunsOnly (runsOfBlob a) → PointRunsOnly (runsOfBlob b)
         → FirstExtremeLine atLeast a b told output

@@ -1,11 +1,11 @@
 -- Both blobs read: the order of the checks, what is handed to a sweep, and what its pair makes, whichever pair it is. Assumes nothing.
 use mathlib.Core.Path.{_≡_, refl, sym, _∙_}
-use mathlib.Core.Bool.{Bool, true, false, cond}
-use mathlib.Core.List.{List, [], _∷_}
+use mathlib.Core.Bool.{Bool, true, false, cond, not, _||_}
+use mathlib.Core.List.{List, [], _∷_, _++_}
 use mathlib.Core.Option.{Option, none, some, orElse}
 use Prim.Native.Nat.{ℕ, _*_, _≤_}
 use native.Mathlib.Omega.{arith}
-use lib.Dec.{ltb}
+use lib.Dec.{ltb, eqb}
 use lib.ListN.{length}
 use lib.Ieee.{lt}
 use borrow.Author.Tests.{ltb-false}
@@ -25,11 +25,12 @@ use Rattle.operands.specs.declared.Operands.{Operands}
 use Rattle.operands.specs.declared.Checked.{Checked}
 use Rattle.operands.specs.declared.Checked.the-variants as checked
 use Rattle.operands.proofs.Meaning.{refused-is-first, AreAccepted, are-accepted}
-use Rattle.outcomes.specs.Operations.{noSide, toleranceChecks}
+use Rattle.outcomes.specs.Operations.{noSide, toleranceChecks, ruleChecks}
 use Rattle.outcomes.specs.Inner.{memoryBy, sweptOf, sweptBy, PairSwept, HasRoom}
 use Rattle.outcomes.specs.declared.Swept.{Swept}
 use Rattle.outcomes.specs.declared.Swept.the-variants as swept
 use Rattle.outcomes.proofs.Handed.{Side, side}
+use Rattle.outcomes.proofs.Rules.{rule-before}
 use Rattle.reading.specs.Inner.{askedChecks, belowZero, tooShort, storedBy, ReadBoth}
 use Rattle.reading.specs.declared.Asked.{Asked}
 use Rattle.reading.specs.declared.Asked.the-variants as asked
@@ -68,6 +69,18 @@ module _ (q : Asked) (cs : List (Check Refusal)) where
     unfolding orElse
     first-none e f = rw (asked-first q cs, from-zero, e, f)
 
+-- ---- with a rule
+
+module _ (rule : ℕ) (cs : List (Check Refusal)) where
+  pub first-no-rule : not (eqb rule 1 || eqb rule 2) ≡ true → firstOf (ruleChecks rule ++ cs) ≡ some (noSide 17)
+  unfolding orElse
+  first-no-rule e = rw (rule-before rule cs, e)
+
+  -- 1 or 2 refuses nothing
+  pub first-by-rule : (q : Asked) → not (eqb rule 1 || eqb rule 2) ≡ false → firstOf (askedChecks q (ruleChecks rule ++ cs)) ≡ firstOf (askedChecks q cs)
+  unfolding orElse
+  first-by-rule q e = rw (asked-first q (ruleChecks rule ++ cs), rule-before rule cs, e, ← asked-first q cs)
+
 -- ---- both blobs read
 
 -- the operands are accepted, and so many numbers fit
@@ -93,6 +106,10 @@ module _ {first : Option Refusal} (a b : List ℕ) (w : Workspaces) where
   pub read-stored : {o : Operands} {w′ : Workspaces} → first ≡ none → o ≡ operandsOf a b → w′ ≡ filled a b w → ReadBoth first a b w w′ (both-read.Stored (numbersPerRun * o .first .runs) (numbersPerRun * o .second .runs) (o .srid))
   unfolding storedBy memoryBy
   read-stored e own full = record { answer = rw (e, own); memory = full ∙ rw e }
+
+-- by checks that refuse the same
+pub read-restated : {x y : Option Refusal} {a b : List ℕ} {w w′ : Workspaces} {r : BothRead} → y ≡ x → ReadBoth x a b w w′ r → ReadBoth y a b w w′ r
+read-restated e h = rw e h
 
 -- ---- the sweep
 

@@ -13,10 +13,11 @@ use Rattle.gpb.specs.Header.{sridOf}
 use Rattle.workspace.specs.Workspace.{numbersNeeded}
 use Rattle.blob.specs.Blob.{runsOfBlob}
 use Rattle.operands.specs.Operands.{Workspaces, lentChecks}
-use Rattle.outcomes.specs.Operations.{noSide, toleranceChecks}
+use Rattle.outcomes.specs.Operations.{noSide, toleranceChecks, ruleChecks}
 use Rattle.outcomes.specs.Inner.{memoryBy}
 use Rattle.reading.specs.declared.Asked.{Asked}
 use Rattle.reading.specs.declared.Asked.the-variants as asked
+use Rattle.reading.specs.declared.Question.{Question}
 use Rattle.reading.specs.declared.BothRead.{BothRead}
 use Rattle.reading.specs.declared.BothRead.the-variants as both-read
 
@@ -40,6 +41,10 @@ tooShort (asked.Bytes lent needed) = ltb lent needed
 -- the first of them that holds, of the memory lent
 abbrev pub firstAsked : Asked → List ℕ → List ℕ → Workspaces → Option Refusal
 firstAsked q a b w = firstOf (askedChecks q (lentChecks a b w))
+
+-- the same where there is a rule: 17 after 1, before the operands' checks
+abbrev pub firstByRule : Question → List ℕ → List ℕ → Workspaces → Option Refusal
+firstByRule q a b w = firstOf (askedChecks (q .asked) (ruleChecks (q .rule) ++ lentChecks a b w))
 
 -- refused, or how many numbers of each table are written, and side 1's SRID
 unfoldable pub storedBy : Option Refusal → List ℕ → List ℕ → BothRead

@@ -68,17 +68,19 @@ const NUMBER: usize = 14;
 
 const SIDE: usize = 15;
 
+const RULE: usize = 16;
+
 // The operation that asks for a patch.
 const PATCH: u32 = 9;
 
 // Where its 64-bit numbers start, and where its bytes do.
-const ARGUMENT: usize = 64;
+const ARGUMENT: usize = 68;
 
-const FIRST: usize = 72;
+const FIRST: usize = 76;
 
-const SECOND: usize = 80;
+const SECOND: usize = 84;
 
-const BYTES: usize = 88;
+const BYTES: usize = 92;
 
 // The cases of an answer.
 const NOTHING: u32 = 0;
@@ -98,6 +100,13 @@ struct Reply {
     side: u32,
     first: u64,
     second: u64,
+}
+
+// What is asked of two blobs; a distance and a rule by the operations that take one.
+struct Question {
+    operation: u32,
+    d: f64,
+    rule: u32,
 }
 
 // Where the parts of a record's bytes start: the first, A's bytes, at BYTES.
@@ -144,14 +153,14 @@ fn u64_at(s: &[u8], at: usize) -> u64 {
 
 // A record's 32-bit number by its place.
 fn word(r: &[u8], i: usize) -> u32
-    requires { ⌜ i < 16 ⌝ }
+    requires { ⌜ i < 17 ⌝ }
 {
     u32_at(r, 4 * i)
 }
 
 // The same as a length.
 fn length(r: &[u8], i: usize) -> usize
-    requires { ⌜ i < 16 ⌝ }
+    requires { ⌜ i < 17 ⌝ }
     ensures { λ n. ⌜ n < 4294967296 ⌝ }
 {
     word(r, i) as usize
@@ -267,24 +276,44 @@ fn reply_of_patch(x: PatchRange) -> Reply {
 
 // The call of an operation on two blobs.
 fn call_two(
-    operation: u32,
+    x: Question,
     a: &[u8],
     b: &[u8],
-    d: f64,
     floats1: &mut [f64],
     table1: &mut [u32],
     floats2: &mut [f64],
     table2: &mut [u32],
     output: &mut [u8],
 ) -> Reply {
+    let operation = x.operation;
+    let d = x.d;
+    let rule = x.rule;
     match operation {
-        0 => reply_of_answer(st_3d_distance(a, b, floats1, table1, floats2, table2)),
+        0 => reply_of_answer(st_3d_distance(a, b, rule, floats1, table1, floats2, table2)),
         1 => reply_of_answer(st_3d_max_distance(a, b, floats1, table1, floats2, table2)),
-        2 => reply_of_decision(st_3d_dwithin(a, b, d, floats1, table1, floats2, table2)),
+        2 => reply_of_decision(st_3d_dwithin(a, b, d, rule, floats1, table1, floats2, table2)),
         3 => reply_of_decision(st_3d_dfully_within(a, b, d, floats1, table1, floats2, table2)),
-        4 => reply_of_decision(st_3d_intersects(a, b, floats1, table1, floats2, table2)),
-        5 => reply_of_written(st_3d_closest_point(a, b, floats1, table1, floats2, table2, output)),
-        6 => reply_of_written(st_3d_shortest_line(a, b, floats1, table1, floats2, table2, output)),
+        4 => reply_of_decision(st_3d_intersects(a, b, rule, floats1, table1, floats2, table2)),
+        5 => reply_of_written(st_3d_closest_point(
+            a,
+            b,
+            rule,
+            floats1,
+            table1,
+            floats2,
+            table2,
+            output,
+        )),
+        6 => reply_of_written(st_3d_shortest_line(
+            a,
+            b,
+            rule,
+            floats1,
+            table1,
+            floats2,
+            table2,
+            output,
+        )),
         7 => reply_of_written(st_3d_longest_line(a, b, floats1, table1, floats2, table2, output)),
         _ => plain(UNKNOWN),
     }
@@ -303,13 +332,23 @@ fn call(
     let a = part(r, BYTES, p.b);
     let b = part(r, p.b, p.output);
     let argument = u64_at(r, ARGUMENT);
-    let x = from_pattern(argument);
+    let d = from_pattern(argument);
     let operation = word(r, OPERATION);
+    let rule = word(r, RULE);
     match operation {
-        8 => reply_of_interpolated(st_3d_line_interpolate_point(a, x, floats1, table1, output)),
+        8 => reply_of_interpolated(st_3d_line_interpolate_point(a, d, floats1, table1, output)),
         PATCH => reply_of_patch(patch_range(a, argument)),
         10 => reply_of_sizes(blob_sizes(a)),
-        _ => call_two(operation, a, b, x, floats1, table1, floats2, table2, output),
+        _ => call_two(
+            Question { operation, d, rule },
+            a,
+            b,
+            floats1,
+            table1,
+            floats2,
+            table2,
+            output,
+        ),
     }
 }
 
@@ -621,4 +660,5 @@ fn main() {
     replay_file(b"patch");
     replay_file(b"sizes");
     replay_file(b"fixtures");
+    replay_file(b"rules");
 }

@@ -33,5 +33,5 @@ module _ (a b : List ℕ) (w : Workspaces) (lent : List ℕ) (x : Written) (outp
   pub longest-reply : LongestOfAll (answering nothing) (answering blob) a b w lent (writtenReport x) output → LongestOfAll replyNothing (replyAnswered positiveZero) a b w lent r output
   longest-reply h = rw same (record { first-extreme-line = λ first. first-extreme-reply _ a b x output (h .first-extreme-line first) })
 
-  pub shortest-reply : ShortestOfPoints (answering nothing) (answering blob) a b w lent (writtenReport x) output → ShortestOfPoints replyNothing (replyAnswered positiveZero) a b w lent r output
-  shortest-reply h = rw same (record { first-extreme-line = λ first p q. first-extreme-reply _ a b x output (h .first-extreme-line first p q) })
+  pub shortest-reply : (rule : ℕ) → ShortestOfPoints (answering nothing) (answering blob) a b rule w lent (writtenReport x) output → ShortestOfPoints replyNothing (replyAnswered positiveZero) a b rule w lent r output
+  shortest-reply rule h = rw same (record { first-extreme-line = λ first p q. first-extreme-reply _ a b x output (h .first-extreme-line first p q) })

@@ -37,15 +37,24 @@ ghost use Rattle.replies.specs.PatchReplies.{patchesReply};
 pub extern "C" fn viskorrel_3d_distance(
     a: &[u8],
     b: &[u8],
+    rule: u32,
     floats1: &mut [f64],
     table1: &mut [u32],
     floats2: &mut [f64],
     table2: &mut [u32],
 ) -> Reply
     ensures whole_outcome { λ r. ⌜ returned r (left floats1 table1 floats2 table2) []
-        ≡ returnedOf (distance (now (a .entry)) (now (b .entry)) (lent floats1 table1 floats2 table2)) ⌝ }
+        ≡ returnedOf (distance (now (a .entry)) (now (b .entry)) rule (lent floats1 table1 floats2 table2)) ⌝ }
 {
-    replies::reply_to_answer(threed_closest::st_3d_distance(a, b, floats1, table1, floats2, table2))
+    replies::reply_to_answer(threed_closest::st_3d_distance(
+        a,
+        b,
+        rule,
+        floats1,
+        table1,
+        floats2,
+        table2,
+    ))
 }
 
 // The greatest distance of a vertex of a from one of b.
@@ -77,18 +86,20 @@ pub extern "C" fn viskorrel_3d_dwithin(
     a: &[u8],
     b: &[u8],
     d: f64,
+    rule: u32,
     floats1: &mut [f64],
     table1: &mut [u32],
     floats2: &mut [f64],
     table2: &mut [u32],
 ) -> Reply
     ensures whole_outcome { λ r. ⌜ returned r (left floats1 table1 floats2 table2) []
-        ≡ returnedOf (within (now (a .entry)) (now (b .entry)) d (lent floats1 table1 floats2 table2)) ⌝ }
+        ≡ returnedOf (within (now (a .entry)) (now (b .entry)) d rule (lent floats1 table1 floats2 table2)) ⌝ }
 {
     replies::reply_to_decision(threed_closest::st_3d_dwithin(
         a,
         b,
         d,
+        rule,
         floats1,
         table1,
         floats2,
@@ -126,17 +137,19 @@ pub extern "C" fn viskorrel_3d_dfully_within(
 pub extern "C" fn viskorrel_3d_intersects(
     a: &[u8],
     b: &[u8],
+    rule: u32,
     floats1: &mut [f64],
     table1: &mut [u32],
     floats2: &mut [f64],
     table2: &mut [u32],
 ) -> Reply
     ensures whole_outcome { λ r. ⌜ returned r (left floats1 table1 floats2 table2) []
-        ≡ returnedOf (intersects (now (a .entry)) (now (b .entry)) (lent floats1 table1 floats2 table2)) ⌝ }
+        ≡ returnedOf (intersects (now (a .entry)) (now (b .entry)) rule (lent floats1 table1 floats2 table2)) ⌝ }
 {
     replies::reply_to_decision(threed_closest::st_3d_intersects(
         a,
         b,
+        rule,
         floats1,
         table1,
         floats2,
@@ -149,6 +162,7 @@ pub extern "C" fn viskorrel_3d_intersects(
 pub extern "C" fn viskorrel_3d_closest_point(
     a: &[u8],
     b: &[u8],
+    rule: u32,
     floats1: &mut [f64],
     table1: &mut [u32],
     floats2: &mut [f64],
@@ -156,12 +170,13 @@ pub extern "C" fn viskorrel_3d_closest_point(
     output: &mut [u8],
 ) -> Reply
     ensures whole_outcome { λ r. ⌜ returned r (left floats1 table1 floats2 table2) (now (output .exit))
-        ≡ returnedOf (closestPoint (now (a .entry)) (now (b .entry)) (lent floats1 table1 floats2 table2)
+        ≡ returnedOf (closestPoint (now (a .entry)) (now (b .entry)) rule (lent floats1 table1 floats2 table2)
         (now (output .entry))) ⌝ }
 {
     replies::reply_to_written(threed_closest::st_3d_closest_point(
         a,
         b,
+        rule,
         floats1,
         table1,
         floats2,
@@ -175,6 +190,7 @@ pub extern "C" fn viskorrel_3d_closest_point(
 pub extern "C" fn viskorrel_3d_shortest_line(
     a: &[u8],
     b: &[u8],
+    rule: u32,
     floats1: &mut [f64],
     table1: &mut [u32],
     floats2: &mut [f64],
@@ -182,15 +198,16 @@ pub extern "C" fn viskorrel_3d_shortest_line(
     output: &mut [u8],
 ) -> Reply
     ensures whole_outcome { λ r. ⌜ returned r (left floats1 table1 floats2 table2) (now (output .exit))
-        ≡ returnedOf (shortestLine (now (a .entry)) (now (b .entry)) (lent floats1 table1 floats2 table2)
+        ≡ returnedOf (shortestLine (now (a .entry)) (now (b .entry)) rule (lent floats1 table1 floats2 table2)
         (now (output .entry))) ⌝ }
     ensures shortest_of_points { λ r. ⌜ ShortestOfPoints replyNothing (replyAnswered positiveZero)
-        (now (a .entry)) (now (b .entry)) (lent floats1 table1 floats2 table2) (now (output .entry))
+        (now (a .entry)) (now (b .entry)) rule (lent floats1 table1 floats2 table2) (now (output .entry))
         r (now (output .exit)) ⌝ }
 {
     replies::reply_to_written(threed_closest::st_3d_shortest_line(
         a,
         b,
+        rule,
         floats1,
         table1,
         floats2,

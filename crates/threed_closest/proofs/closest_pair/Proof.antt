@@ -6,30 +6,30 @@ use borrow.Author.Needs.{needs}
 use Rattle.threed_closest.proofs.closest_pair.Statement.{statement}
 use Rattle.threed_closest.proofs.closest_pair.Tie as tie
 
-slice-reshare-prefix-closest : tie.Need-slice-reshare-prefix-closest
-slice-reshare-prefix-closest c = let k = c .before .before in let s = sides (k .before .before .before .before .before .before .before .before .before .before .read-both .ensures) (k .numbers1 .given .1) in s .0 .fits
+slice-reshare-prefix-sweep : tie.Need-slice-reshare-prefix-sweep
+slice-reshare-prefix-sweep c = let k = c .before .before in let s = sides (k .before .before .before .before .before .before .before .before .before .before .read-by-rule .ensures) (k .numbers1 .given .1) in s .0 .fits
 
-slice-aggregate-closest : tie.Need-slice-aggregate-closest
-slice-aggregate-closest c = let k = c .before .before .before in let s = sides (k .before .before .before .before .before .before .before .before .before .before .read-both .ensures) (k .numbers1 .given .1) in s .0 .long
+slice-aggregate-sweep : tie.Need-slice-aggregate-sweep
+slice-aggregate-sweep c = let k = c .before .before .before in let s = sides (k .before .before .before .before .before .before .before .before .before .before .read-by-rule .ensures) (k .numbers1 .given .1) in s .0 .long
 
-slice-reshare-prefix-closest-2 : tie.Need-slice-reshare-prefix-closest-2
-slice-reshare-prefix-closest-2 c = let k = c .before .before .before .before in let s = sides (k .before .before .before .before .before .before .before .before .before .before .read-both .ensures) (k .numbers1 .given .1) in s .1 .fits
+slice-reshare-prefix-sweep-2 : tie.Need-slice-reshare-prefix-sweep-2
+slice-reshare-prefix-sweep-2 c = let k = c .before .before .before .before in let s = sides (k .before .before .before .before .before .before .before .before .before .before .read-by-rule .ensures) (k .numbers1 .given .1) in s .1 .fits
 
-slice-aggregate-closest-2 : tie.Need-slice-aggregate-closest-2
-slice-aggregate-closest-2 c = let k = c .before .before .before .before .before in let s = sides (k .before .before .before .before .before .before .before .before .before .before .read-both .ensures) (k .numbers1 .given .1) in s .1 .long
+slice-aggregate-sweep-2 : tie.Need-slice-aggregate-sweep-2
+slice-aggregate-sweep-2 c = let k = c .before .before .before .before .before in let s = sides (k .before .before .before .before .before .before .before .before .before .before .read-by-rule .ensures) (k .numbers1 .given .1) in s .1 .long
 
-closest-requires : tie.Need-closest-requires
-closest-requires c κs = let k = c .before .before .before .before .before in let s = sides (k .before .before .before .before .before .before .before .before .before .before .read-both .ensures) (k .numbers1 .given .1) in (s .0 .laid, s .1 .laid)
+sweep-requires : tie.Need-sweep-requires
+sweep-requires c κs = let k = c .before .before .before .before .before in let s = sides (k .before .before .before .before .before .before .before .before .before .before .read-by-rule .ensures) (k .numbers1 .given .1) in (s .0 .laid, s .1 .laid)
 
 returns : tie.Need-returns
-returns c = swept-refused (c .before .before .before .before .before .before .before .before .before .before .before .read-both .ensures) _ _ (c .before .refusal .given .1)
+returns c = swept-refused (c .before .before .before .before .before .before .before .before .before .before .before .read-by-rule .ensures) _ _ (c .before .refusal .given .1)
 
 returns-2 : tie.Need-returns-2
 unfolding closestPair
 returns-2 c =
     let k = c .before .before .before .before .before .before .before in
-    let s = sides (k .before .before .before .before .before .before .before .before .before .before .read-both .ensures) (k .numbers1 .given .1) in
-    swept-found (k .before .before .before .before .before .before .before .before .before .before .read-both .ensures) (k .numbers1 .given .1) _ (c .before .closest .ensures ∙ rw (s .0 .items, s .1 .items)) (c .with-srid .ensures)
+    let s = sides (k .before .before .before .before .before .before .before .before .before .before .read-by-rule .ensures) (k .numbers1 .given .1) in
+    swept-found (k .before .before .before .before .before .before .before .before .before .before .read-by-rule .ensures) (k .numbers1 .given .1) _ (c .before .sweep .ensures ∙ rw (s .0 .items, s .1 .items)) (c .with-srid .ensures)
 
 pub closest-pair-spec : {M : Type 1} → statement M
 closest-pair-spec =
@@ -38,11 +38,11 @@ closest-pair-spec =
     (λ c κs. search needs)
     (λ c. search needs)
     (λ c. search needs)
-    slice-reshare-prefix-closest
-    slice-aggregate-closest
-    slice-reshare-prefix-closest-2
-    slice-aggregate-closest-2
-    closest-requires
+    slice-reshare-prefix-sweep
+    slice-aggregate-sweep
+    slice-reshare-prefix-sweep-2
+    slice-aggregate-sweep-2
+    sweep-requires
     (λ c κs. search needs)
     (λ c. search needs)
     (λ c. search needs)

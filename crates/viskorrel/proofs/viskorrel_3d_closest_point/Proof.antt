@@ -4,19 +4,19 @@ use Rattle.viskorrel.proofs.viskorrel_3d_closest_point.Statement.{state
 use Rattle.viskorrel.proofs.viskorrel_3d_closest_point.Tie as tie
 
 same-length : tie.Need-same-length
-same-length c = c .before .before .before .before .before .before .before .before .before .before .before .st-3d-closest-point .kept .1 .1 .0
+same-length c = c .before .before .before .before .before .before .before .before .before .before .before .st-3d-closest-point .kept .1 .1 .1 .0
 
 same-length-2 : tie.Need-same-length-2
-same-length-2 c = c .before .before .before .before .before .before .before .before .before .before .before .st-3d-closest-point .kept .1 .1 .1 .0
+same-length-2 c = c .before .before .before .before .before .before .before .before .before .before .before .st-3d-closest-point .kept .1 .1 .1 .1 .0
 
 same-length-3 : tie.Need-same-length-3
-same-length-3 c = c .before .before .before .before .before .before .before .before .before .before .before .st-3d-closest-point .kept .1 .1 .1 .1 .0
+same-length-3 c = c .before .before .before .before .before .before .before .before .before .before .before .st-3d-closest-point .kept .1 .1 .1 .1 .1 .0
 
 same-length-4 : tie.Need-same-length-4
-same-length-4 c = c .before .before .before .before .before .before .before .before .before .before .before .st-3d-closest-point .kept .1 .1 .1 .1 .1 .0
+same-length-4 c = c .before .before .before .before .before .before .before .before .before .before .before .st-3d-closest-point .kept .1 .1 .1 .1 .1 .1 .0
 
 same-length-5 : tie.Need-same-length-5
-same-length-5 c = c .before .before .before .before .before .before .before .before .before .before .before .st-3d-closest-point .kept .1 .1 .1 .1 .1 .1 .0
+same-length-5 c = c .before .before .before .before .before .before .before .before .before .before .before .st-3d-closest-point .kept .1 .1 .1 .1 .1 .1 .1 .0
 
 returns : tie.Need-returns
 returns c = as-returned _ _ _ _ _ (c .before .before .before .before .before .before .before .before .before .before .before .st-3d-closest-point .ensures) (c .reply-to-written .ensures)

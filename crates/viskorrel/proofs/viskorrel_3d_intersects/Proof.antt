@@ -4,16 +4,16 @@ use Rattle.viskorrel.proofs.viskorrel_3d_intersects.Statement.{statemen
 use Rattle.viskorrel.proofs.viskorrel_3d_intersects.Tie as tie
 
 same-length : tie.Need-same-length
-same-length c = c .before .before .before .before .before .before .before .before .before .st-3d-intersects .kept .1 .1 .0
+same-length c = c .before .before .before .before .before .before .before .before .before .st-3d-intersects .kept .1 .1 .1 .0
 
 same-length-2 : tie.Need-same-length-2
-same-length-2 c = c .before .before .before .before .before .before .before .before .before .st-3d-intersects .kept .1 .1 .1 .0
+same-length-2 c = c .before .before .before .before .before .before .before .before .before .st-3d-intersects .kept .1 .1 .1 .1 .0
 
 same-length-3 : tie.Need-same-length-3
-same-length-3 c = c .before .before .before .before .before .before .before .before .before .st-3d-intersects .kept .1 .1 .1 .1 .0
+same-length-3 c = c .before .before .before .before .before .before .before .before .before .st-3d-intersects .kept .1 .1 .1 .1 .1 .0
 
 same-length-4 : tie.Need-same-length-4
-same-length-4 c = c .before .before .before .before .before .before .before .before .before .st-3d-intersects .kept .1 .1 .1 .1 .1 .0
+same-length-4 c = c .before .before .before .before .before .before .before .before .before .st-3d-intersects .kept .1 .1 .1 .1 .1 .1 .0
 
 returns : tie.Need-returns
 returns c = as-returned _ _ _ _ _ (c .before .before .before .before .before .before .before .before .before .st-3d-intersects .ensures) (c .reply-to-decision .ensures)
