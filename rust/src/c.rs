@@ -10,7 +10,7 @@
 //!
 //! Lengths count elements, as those of slices do. The functions keep no pointer, and neither unwind nor call back.
 
-use crate::Refusal;
+use crate::{Refusal, Rule};
 use viskorrel_sys as sys;
 
 pub use sys::{Pair, Reply, Root};
@@ -52,16 +52,16 @@ pub struct Workspace {
     pub table: Vec<u32>,
 }
 
-/// The safe function over an export on two blobs. The export's number and output are named where it has them.
+/// The safe function over an export on two blobs. The export's number, rule and output are named where it has them.
 macro_rules! on_two_blobs {
-    ($(fn $name:ident = $export:ident ( $(number $number:ident)? $(output $output:ident)? );)*) => {
+    ($(fn $name:ident = $export:ident ( $(number $number:ident)? $(rule $rule:ident)? $(output $output:ident)? );)*) => {
         $(pub fn $name(
-            a: &[u8], b: &[u8], $($number: f64,)? one: &mut Workspace, two: &mut Workspace, $($output: &mut [u8])?
+            a: &[u8], b: &[u8], $($number: f64,)? $($rule: Rule,)? one: &mut Workspace, two: &mut Workspace, $($output: &mut [u8])?
         ) -> Reply {
             // SAFETY: every pointer and length are those of one live slice; see the head of this module.
             unsafe {
                 sys::$export(
-                    a.as_ptr(), a.len(), b.as_ptr(), b.len(), $($number,)?
+                    a.as_ptr(), a.len(), b.as_ptr(), b.len(), $($number,)? $($rule as u32,)?
                     one.floats.as_mut_ptr(), one.floats.len(), one.table.as_mut_ptr(), one.table.len(),
                     two.floats.as_mut_ptr(), two.floats.len(), two.table.as_mut_ptr(), two.table.len(),
                     $($output.as_mut_ptr(), $output.len())?
@@ -72,13 +72,13 @@ macro_rules! on_two_blobs {
 }
 
 on_two_blobs! {
-    fn distance = viskorrel_3d_distance();
+    fn distance = viskorrel_3d_distance(rule rule);
     fn max_distance = viskorrel_3d_max_distance();
-    fn intersects = viskorrel_3d_intersects();
-    fn dwithin = viskorrel_3d_dwithin(number d);
+    fn intersects = viskorrel_3d_intersects(rule rule);
+    fn dwithin = viskorrel_3d_dwithin(number d rule rule);
     fn dfully_within = viskorrel_3d_dfully_within(number d);
-    fn closest_point = viskorrel_3d_closest_point(output output);
-    fn shortest_line = viskorrel_3d_shortest_line(output output);
+    fn closest_point = viskorrel_3d_closest_point(rule rule output output);
+    fn shortest_line = viskorrel_3d_shortest_line(rule rule output output);
     fn longest_line = viskorrel_3d_longest_line(output output);
 }
 

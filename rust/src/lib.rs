@@ -1,7 +1,8 @@
 //! 3D measures between GeoPackage or WKB blobs: a safe layer over Viskorrel's C exports, whose answers are proved.
 //!
 //! Any bytes may be passed. A call gives an answer, or a [`Refusal`] from a fixed table. Names and shapes are those of
-//! [kenro](https://github.com/reearth/kenro); where the two answer differently, `docs/DIFFERENCES.md` says so.
+//! [kenro](https://github.com/reearth/kenro); where the two answer differently, `docs/DIFFERENCES.md` says so. Beside each of the five
+//! functions by the least distance stands one that ends in `_by` and takes a [`Rule`]: by rule 2 a rod that passes through a plate touches it.
 //!
 //! The functions here keep one [`Measurer`] for each thread, and so as much memory as the thread's largest blobs took. Hold a `Measurer`
 //! of your own to say when that memory goes.
@@ -25,9 +26,11 @@
 mod c;
 mod measurer;
 mod refusal;
+mod rule;
 
 pub use measurer::Measurer;
 pub use refusal::Refusal;
+pub use rule::Rule;
 
 use c::Outcome;
 use std::cell::RefCell;
@@ -160,6 +163,11 @@ pub fn st_3d_distance(a: &[u8], b: &[u8]) -> Result<Option<f64>, Refusal> {
     with(|measurer| measurer.st_3d_distance(a, b))
 }
 
+/// See [`Measurer::st_3d_distance_by`]. Refusals: 3 to 13.
+pub fn st_3d_distance_by(a: &[u8], b: &[u8], rule: Rule) -> Result<Option<f64>, Refusal> {
+    with(|measurer| measurer.st_3d_distance_by(a, b, rule))
+}
+
 /// See [`Measurer::st_3d_max_distance`]. Refusals: 3 to 13.
 pub fn st_3d_max_distance(a: &[u8], b: &[u8]) -> Result<Option<f64>, Refusal> {
     with(|measurer| measurer.st_3d_max_distance(a, b))
@@ -168,6 +176,11 @@ pub fn st_3d_max_distance(a: &[u8], b: &[u8]) -> Result<Option<f64>, Refusal> {
 /// See [`Measurer::st_3d_dwithin`]. Refusals: 1, 3 to 13.
 pub fn st_3d_dwithin(a: &[u8], b: &[u8], d: f64) -> Result<bool, Refusal> {
     with(|measurer| measurer.st_3d_dwithin(a, b, d))
+}
+
+/// See [`Measurer::st_3d_dwithin_by`]. Refusals: 1, 3 to 13.
+pub fn st_3d_dwithin_by(a: &[u8], b: &[u8], d: f64, rule: Rule) -> Result<bool, Refusal> {
+    with(|measurer| measurer.st_3d_dwithin_by(a, b, d, rule))
 }
 
 /// See [`Measurer::st_3d_dfully_within`]. Refusals: 1, 3 to 13.
@@ -180,14 +193,29 @@ pub fn st_3d_intersects(a: &[u8], b: &[u8]) -> Result<bool, Refusal> {
     with(|measurer| measurer.st_3d_intersects(a, b))
 }
 
+/// See [`Measurer::st_3d_intersects_by`]. Refusals: 3 to 13.
+pub fn st_3d_intersects_by(a: &[u8], b: &[u8], rule: Rule) -> Result<bool, Refusal> {
+    with(|measurer| measurer.st_3d_intersects_by(a, b, rule))
+}
+
 /// See [`Measurer::st_3d_closest_point`]. Refusals: 3 to 13.
 pub fn st_3d_closest_point(a: &[u8], b: &[u8]) -> Result<Option<Vec<u8>>, Refusal> {
     with(|measurer| measurer.st_3d_closest_point(a, b))
 }
 
+/// See [`Measurer::st_3d_closest_point_by`]. Refusals: 3 to 13.
+pub fn st_3d_closest_point_by(a: &[u8], b: &[u8], rule: Rule) -> Result<Option<Vec<u8>>, Refusal> {
+    with(|measurer| measurer.st_3d_closest_point_by(a, b, rule))
+}
+
 /// See [`Measurer::st_3d_shortest_line`]. Refusals: 3 to 13.
 pub fn st_3d_shortest_line(a: &[u8], b: &[u8]) -> Result<Option<Vec<u8>>, Refusal> {
     with(|measurer| measurer.st_3d_shortest_line(a, b))
+}
+
+/// See [`Measurer::st_3d_shortest_line_by`]. Refusals: 3 to 13.
+pub fn st_3d_shortest_line_by(a: &[u8], b: &[u8], rule: Rule) -> Result<Option<Vec<u8>>, Refusal> {
+    with(|measurer| measurer.st_3d_shortest_line_by(a, b, rule))
 }
 
 /// See [`Measurer::st_3d_longest_line`]. Refusals: 3 to 13.

@@ -1,11 +1,12 @@
 use crate::c::{self, Outcome, Reply, Workspace};
-use crate::Refusal;
+use crate::{Refusal, Rule};
 use viskorrel_sys::{LINE_BYTES, POINT_BYTES};
 
 /// The number of the refusal that a workspace is too short.
 const WORKSPACE_TOO_SHORT: u32 = 15;
 
-/// The operations, over memory that is kept from one call to the next.
+/// The operations, over memory that is kept from one call to the next. Those by the least distance go by rule 1, or by the [`Rule`] that a
+/// function ending in `_by` is given.
 ///
 /// The memory is grown where a blob needs more than any before it, by a small multiple of its bytes; it never shrinks. What a
 /// call leaves in it changes no later answer.
@@ -23,7 +24,12 @@ impl Measurer {
 
     /// The least distance between `a` and `b` (may be NaN); `None` where one of them has no point, segment or triangle.
     pub fn st_3d_distance(&mut self, a: &[u8], b: &[u8]) -> Result<Option<f64>, Refusal> {
-        let reply = self.on_two(a, b, |one, two| c::distance(a, b, one, two));
+        self.st_3d_distance_by(a, b, Rule::One)
+    }
+
+    /// The same by a rule.
+    pub fn st_3d_distance_by(&mut self, a: &[u8], b: &[u8], rule: Rule) -> Result<Option<f64>, Refusal> {
+        let reply = self.on_two(a, b, |one, two| c::distance(a, b, rule, one, two));
         Ok(reply.answered()?.then_some(reply.value))
     }
 
@@ -36,7 +42,12 @@ impl Measurer {
 
     /// Whether the least distance is at most `d`. No where there is none, or where one of the two is NaN.
     pub fn st_3d_dwithin(&mut self, a: &[u8], b: &[u8], d: f64) -> Result<bool, Refusal> {
-        self.on_two(a, b, |one, two| c::dwithin(a, b, d, one, two)).answered()
+        self.st_3d_dwithin_by(a, b, d, Rule::One)
+    }
+
+    /// The same by a rule.
+    pub fn st_3d_dwithin_by(&mut self, a: &[u8], b: &[u8], d: f64, rule: Rule) -> Result<bool, Refusal> {
+        self.on_two(a, b, |one, two| c::dwithin(a, b, d, rule, one, two)).answered()
     }
 
     /// Whether the greatest distance is at most `d`. No where there is none, or where one of the two is NaN.
@@ -46,23 +57,39 @@ impl Measurer {
 
     /// Whether the least distance is 0. No where there is none.
     ///
-    /// A segment that passes through a triangle is measured at its ends and at the triangle's edges, so the two may not intersect by this.
+    /// A segment that passes through a triangle is measured at its ends and at the triangle's edges, so the two may not intersect by this:
+    /// they do by [`Rule::Two`].
     pub fn st_3d_intersects(&mut self, a: &[u8], b: &[u8]) -> Result<bool, Refusal> {
-        self.on_two(a, b, |one, two| c::intersects(a, b, one, two)).answered()
+        self.st_3d_intersects_by(a, b, Rule::One)
+    }
+
+    /// Whether the least distance by a rule is 0. No where there is none.
+    pub fn st_3d_intersects_by(&mut self, a: &[u8], b: &[u8], rule: Rule) -> Result<bool, Refusal> {
+        self.on_two(a, b, |one, two| c::intersects(a, b, rule, one, two)).answered()
     }
 
     /// The point of `a` at the least distance, the first of several: a GeoPackage blob with the SRID of `a`.
     pub fn st_3d_closest_point(&mut self, a: &[u8], b: &[u8]) -> Result<Option<Vec<u8>>, Refusal> {
+        self.st_3d_closest_point_by(a, b, Rule::One)
+    }
+
+    /// The same by a rule.
+    pub fn st_3d_closest_point_by(&mut self, a: &[u8], b: &[u8], rule: Rule) -> Result<Option<Vec<u8>>, Refusal> {
         let mut output = [0; POINT_BYTES];
-        let reply = self.on_two(a, b, |one, two| c::closest_point(a, b, one, two, &mut output));
+        let reply = self.on_two(a, b, |one, two| c::closest_point(a, b, rule, one, two, &mut output));
         Ok(reply.answered()?.then(|| output.to_vec()))
     }
 
     /// The line from the point of `a` to the point of `b` at the least distance, the first of several: a GeoPackage blob with the SRID of
     /// `a`.
     pub fn st_3d_shortest_line(&mut self, a: &[u8], b: &[u8]) -> Result<Option<Vec<u8>>, Refusal> {
+        self.st_3d_shortest_line_by(a, b, Rule::One)
+    }
+
+    /// The same by a rule.
+    pub fn st_3d_shortest_line_by(&mut self, a: &[u8], b: &[u8], rule: Rule) -> Result<Option<Vec<u8>>, Refusal> {
         let mut output = [0; LINE_BYTES];
-        let reply = self.on_two(a, b, |one, two| c::shortest_line(a, b, one, two, &mut output));
+        let reply = self.on_two(a, b, |one, two| c::shortest_line(a, b, rule, one, two, &mut output));
         Ok(reply.answered()?.then(|| output.to_vec()))
     }
 

@@ -35,6 +35,7 @@ fn said(measurer: &mut Measurer, a: &[u8], b: &[u8]) -> String {
             measurer.st_3d_intersects(a, b),
             measurer.st_3d_closest_point(a, b),
             measurer.st_3d_shortest_line(a, b),
+            measurer.st_3d_shortest_line_by(a, b, Rule::Two),
             measurer.st_3d_longest_line(a, b),
             measurer.st_3d_line_interpolate_point(a, 0.25),
         )

@@ -98,7 +98,8 @@ fn words() {
     let said = |number, side| Refusal { number, side }.to_string();
     assert_eq!(said(1, 0), "refusal 1: d is below 0");
     assert_eq!(said(10, 2), "refusal 10, side 2: a byte order is above 1");
-    assert_eq!(said(17, 0), "refusal 17: a number outside the table");
+    assert_eq!(said(17, 0), "refusal 17: operations by the least distance: the rule is a number other than 1 or 2");
+    assert_eq!(said(18, 0), "refusal 18: a number outside the table");
     assert_eq!(said(0, 0), "refusal 0: a number outside the table");
     let error: Box<dyn std::error::Error> = st_3d_distance(&[], &[]).unwrap_err().into();
     assert_eq!(
@@ -115,7 +116,7 @@ fn words_are_those_of_the_header() {
         .filter_map(|row| row.strip_prefix(" *")?.trim_start().split_once("  "))
         .filter_map(|(number, words)| Some((number.parse().ok()?, words)))
         .collect();
-    assert_eq!(table.len(), 16);
+    assert_eq!(table.len(), 17);
     for (place, (number, words)) in (1..).zip(table) {
         assert_eq!(number, place);
         assert_eq!(Refusal { number, side: 0 }.condition(), words);

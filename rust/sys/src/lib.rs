@@ -8,6 +8,10 @@ pub const ANSWERED: u32 = 1;
 pub const REFUSED: u32 = 2;
 pub const NO_SURFACE: u32 = 3;
 
+/// The pair rules: how a segment and a triangle are measured.
+pub const RULE_1: u32 = 1;
+pub const RULE_2: u32 = 2;
+
 /// The bytes of a written point, and of a written line.
 pub const POINT_BYTES: usize = 37;
 pub const LINE_BYTES: usize = 65;
@@ -41,12 +45,12 @@ pub struct Root {
     pub digits: u32,
 }
 
-/// Declares exports on two blobs, each with its workspace; the number and the output are named where an export has them.
+/// Declares exports on two blobs, each with its workspace; the number, the rule and the output are named where an export has them.
 macro_rules! on_two_blobs {
-    ($(fn $name:ident ( $(number $number:ident)? $(output $output:ident)? );)*) => {
+    ($(fn $name:ident ( $(number $number:ident)? $(rule $rule:ident)? $(output $output:ident)? );)*) => {
         extern "C" {
             $(pub fn $name(
-                a: *const u8, a_length: usize, b: *const u8, b_length: usize, $($number: f64,)?
+                a: *const u8, a_length: usize, b: *const u8, b_length: usize, $($number: f64,)? $($rule: u32,)?
                 floats1: *mut f64, floats1_length: usize, table1: *mut u32, table1_length: usize,
                 floats2: *mut f64, floats2_length: usize, table2: *mut u32, table2_length: usize,
                 $($output: *mut u8, output_length: usize)?
@@ -56,13 +60,13 @@ macro_rules! on_two_blobs {
 }
 
 on_two_blobs! {
-    fn viskorrel_3d_distance();
+    fn viskorrel_3d_distance(rule rule);
     fn viskorrel_3d_max_distance();
-    fn viskorrel_3d_intersects();
-    fn viskorrel_3d_dwithin(number d);
+    fn viskorrel_3d_intersects(rule rule);
+    fn viskorrel_3d_dwithin(number d rule rule);
     fn viskorrel_3d_dfully_within(number d);
-    fn viskorrel_3d_closest_point(output output);
-    fn viskorrel_3d_shortest_line(output output);
+    fn viskorrel_3d_closest_point(rule rule output output);
+    fn viskorrel_3d_shortest_line(rule rule output output);
     fn viskorrel_3d_longest_line(output output);
 }
 
