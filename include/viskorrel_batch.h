@@ -66,11 +66,13 @@ typedef struct viskorrel_answers {
 } viskorrel_answers;
 
 /*
- * One operation on many elements. A refused element has its outcome, number and side, as the operation alone gives them, and the batch goes
- * on. VISKORREL_LINE_INTERPOLATE_POINT looks at a only, and b may be null.
+ * One operation on many elements, all by one rule, VISKORREL_RULE_1 or VISKORREL_RULE_2; an operation that takes no rule does not look at it. A
+ * refused element has its outcome, number and side, as the operation alone gives them, and the batch goes on.
+ * VISKORREL_LINE_INTERPOLATE_POINT looks at a only, and b may be null.
  */
 int viskorrel_batch(
-    uint32_t operation, const viskorrel_blobs *a, const viskorrel_blobs *b, const viskorrel_pairs *pairs, const viskorrel_answers *answers);
+    uint32_t operation, const viskorrel_blobs *a, const viskorrel_blobs *b, uint32_t rule, const viskorrel_pairs *pairs,
+    const viskorrel_answers *answers);
 
 /*
  * BOXES. Six numbers for each blob: least x, y, z, greatest x, y, z of its coordinates. A blob that is refused, has a ring, neither point nor
@@ -95,12 +97,12 @@ typedef struct viskorrel_nearest_answers {
 } viskorrel_nearest_answers;
 
 /*
- * For each blob of a from..to the nearest of b by viskorrel_3d_distance, the first of several as near. With boxes (of viskorrel_boxes, both
- * or none) a pair is passed over where its boxes alone show that its distance, as it would be computed, is above the least so far. The
- * answers are the same with boxes and without them (shared/batch.c says why), pairs that are measured aside.
+ * For each blob of a from..to the nearest of b by viskorrel_3d_distance with this rule, the first of several as near. With boxes (of
+ * viskorrel_boxes, both or none) a pair is passed over where its boxes alone show that its distance, as it would be computed, is above the
+ * least so far. The answers are the same with boxes and without them (shared/batch.c says why), pairs that are measured aside.
  */
 int viskorrel_nearest(
-    const viskorrel_blobs *a, const viskorrel_blobs *b, const double *a_boxes, const double *b_boxes, size_t from, size_t to,
+    const viskorrel_blobs *a, const viskorrel_blobs *b, uint32_t rule, const double *a_boxes, const double *b_boxes, size_t from, size_t to,
     const viskorrel_nearest_answers *answers);
 
 /*

@@ -60,22 +60,25 @@ static void set_from(struct side *side, const viskorrel_blobs *list, size_t at)
 }
 
 EXPORTED int viskorrel_batch(
-    uint32_t operation, const viskorrel_blobs *a, const viskorrel_blobs *b, const viskorrel_pairs *pairs, const viskorrel_answers *answers)
+    uint32_t operation, const viskorrel_blobs *a, const viskorrel_blobs *b, uint32_t rule, const viskorrel_pairs *pairs,
+    const viskorrel_answers *answers)
 {
     struct measurer m = measurer_of(malloc, free);
+    struct question question = {operation, 0, rule};
     size_t bytes = output_bytes(operation), k;
     int result = VISKORREL_BATCH_DONE;
 
     if (!is_whole(operation, a, b, pairs))
         return VISKORREL_BATCH_BAD_CALL;
     for (k = pairs->from; k < pairs->to; k++) {
-        double number = takes_number(operation) ? pairs->numbers[pairs->numbers_count == 1 ? 0 : k] : 0;
         viskorrel_reply reply;
 
+        if (takes_number(operation))
+            question.number = pairs->numbers[pairs->numbers_count == 1 ? 0 : k];
         set_from(&m.sides[0], a, place(a, pairs->first, k));
         if (b)
             set_from(&m.sides[1], b, place(b, pairs->second, k));
-        if (!measure(&m, operation, number, bytes ? answers->output + k * bytes : 0, bytes, &reply)) {
+        if (!measure(&m, &question, bytes ? answers->output + k * bytes : 0, bytes, &reply)) {
             result = VISKORREL_BATCH_NO_MEMORY;
             break;
         }
@@ -100,13 +103,14 @@ EXPORTED viskorrel_reply viskorrel_blob_refusal(const uint8_t *blob, size_t leng
 
 /* ---- The nearest of many ----
  *
- * Why a pair may be passed over by its boxes. u is 2^-53, M the greatest size of a coordinate. Blobs with rings have no box, so the measure of
- * a pair is the computed distance of two points, each a vertex or a + t (b - a) on a segment, computed axis by axis, t within 0..1. The exact
- * a + t (b - a) lies in the box; three rounded operations on numbers of at most 2M move it by less than 6 u M on each axis. Two such points are
- * apart by at least G - 12 sqrt(3) u M > G - 21 u M, G being the exact distance of the boxes. Differences, squares, sum and root take off
- * at most 4 u of that, and as much may have been added to G where it is computed here. So the computed distance is at least
- * G (1 - 9 u) - 21 u M: where G is above reach = least (1 + 2^-40) + 2^-40 M, it is above the least, with hundreds of times to spare over the
- * roundings here. No number is above 1e30 in size, so nothing overflows and no distance is NaN; what underflows is below 2^-500, and reach has 2^-400 for it.
+ * Why a pair may be passed over by its boxes. u is 2^-53, M the greatest size of a coordinate. Blobs with rings have no box, so no segment
+ * meets a triangle, by either rule, and the measure of a pair is the computed distance of two points, each a vertex or a + t (b - a) on a
+ * segment, computed axis by axis, t within 0..1. The exact a + t (b - a) lies in the box; three rounded operations on numbers of at most 2M
+ * move it by less than 6 u M on each axis. Two such points are apart by at least G - 12 sqrt(3) u M > G - 21 u M, G being the exact distance
+ * of the boxes. Differences, squares, sum and root take off at most 4 u of that, and as much may have been added to G where it is computed
+ * here. So the computed distance is at least G (1 - 9 u) - 21 u M: where G is above reach = least (1 + 2^-40) + 2^-40 M, it is above the
+ * least, with hundreds of times to spare over the roundings here. No number is above 1e30 in size, so nothing overflows and no distance is
+ * NaN; what underflows is below 2^-500, and reach has 2^-400 for it.
  */
 #define AXES 3
 #define LARGEST 1e30
@@ -217,8 +221,10 @@ struct boxes {
 };
 
 /* Element k: goes through b in order. 0 if there is no memory. */
-static int nearest(struct measurer *m, const viskorrel_blobs *b, const struct boxes *boxes, size_t k, const viskorrel_nearest_answers *answers)
+static int nearest(
+    struct measurer *m, const viskorrel_blobs *b, uint32_t rule, const struct boxes *boxes, size_t k, const viskorrel_nearest_answers *answers)
 {
+    const struct question distance = {VISKORREL_DISTANCE, 0, rule};
     viskorrel_reply reply = {VISKORREL_NOTHING, 0, 0, 0};
     double least = HUGE_VAL, reach = HUGE_VAL;
     size_t at, place = 0, count = 0;
@@ -228,7 +234,7 @@ static int nearest(struct measurer *m, const viskorrel_blobs *b, const struct bo
             continue;
         set_from(&m->sides[1], b, at);
         count++;
-        if (!measure(m, VISKORREL_DISTANCE, 0, 0, 0, &reply))
+        if (!measure(m, &distance, 0, 0, &reply))
             return 0;
         if (reply.outcome != VISKORREL_ANSWERED || !(fabs(reply.value) < HUGE_VAL)) {
             place = at;
@@ -251,7 +257,7 @@ static int nearest(struct measurer *m, const viskorrel_blobs *b, const struct bo
 }
 
 EXPORTED int viskorrel_nearest(
-    const viskorrel_blobs *a, const viskorrel_blobs *b, const double *a_boxes, const double *b_boxes, size_t from, size_t to,
+    const viskorrel_blobs *a, const viskorrel_blobs *b, uint32_t rule, const double *a_boxes, const double *b_boxes, size_t from, size_t to,
     const viskorrel_nearest_answers *answers)
 {
     struct measurer m = measurer_of(malloc, free);
@@ -266,7 +272,7 @@ EXPORTED int viskorrel_nearest(
     for (k = from; k < to && result == VISKORREL_BATCH_DONE; k++) {
         set_from(&m.sides[0], a, k);
         boxes.one = a_boxes ? a_boxes + 6 * k : 0;
-        if (!nearest(&m, b, &boxes, k, answers))
+        if (!nearest(&m, b, rule, &boxes, k, answers))
             result = VISKORREL_BATCH_NO_MEMORY;
     }
     release_workspaces(&m);

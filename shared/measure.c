@@ -65,31 +65,31 @@ void set_blob(struct side *side, const uint8_t *blob, size_t length)
 #define WORKSPACES FLOATS(s[0]), TABLE(s[0]), FLOATS(s[1]), TABLE(s[1])
 
 /* Asks the library once, with the workspaces as they are. */
-static viskorrel_reply ask(uint32_t operation, const struct side *s, double number, uint8_t *output, size_t output_length)
+static viskorrel_reply ask(const struct question *q, const struct side *s, uint8_t *output, size_t output_length)
 {
     double no_float = 0;
     uint32_t no_number = 0;
     viskorrel_reply unknown = {VISKORREL_NOTHING, 0, 0, 0};
 
-    switch (operation) {
+    switch (q->operation) {
     case VISKORREL_DISTANCE:
-        return viskorrel_3d_distance(BLOBS, WORKSPACES);
+        return viskorrel_3d_distance(BLOBS, q->rule, WORKSPACES);
     case VISKORREL_MAX_DISTANCE:
         return viskorrel_3d_max_distance(BLOBS, WORKSPACES);
     case VISKORREL_INTERSECTS:
-        return viskorrel_3d_intersects(BLOBS, WORKSPACES);
+        return viskorrel_3d_intersects(BLOBS, q->rule, WORKSPACES);
     case VISKORREL_DWITHIN:
-        return viskorrel_3d_dwithin(BLOBS, number, WORKSPACES);
+        return viskorrel_3d_dwithin(BLOBS, q->number, q->rule, WORKSPACES);
     case VISKORREL_DFULLY_WITHIN:
-        return viskorrel_3d_dfully_within(BLOBS, number, WORKSPACES);
+        return viskorrel_3d_dfully_within(BLOBS, q->number, WORKSPACES);
     case VISKORREL_CLOSEST_POINT:
-        return viskorrel_3d_closest_point(BLOBS, WORKSPACES, output, output_length);
+        return viskorrel_3d_closest_point(BLOBS, q->rule, WORKSPACES, output, output_length);
     case VISKORREL_SHORTEST_LINE:
-        return viskorrel_3d_shortest_line(BLOBS, WORKSPACES, output, output_length);
+        return viskorrel_3d_shortest_line(BLOBS, q->rule, WORKSPACES, output, output_length);
     case VISKORREL_LONGEST_LINE:
         return viskorrel_3d_longest_line(BLOBS, WORKSPACES, output, output_length);
     case VISKORREL_LINE_INTERPOLATE_POINT:
-        return viskorrel_3d_line_interpolate_point(BLOB(s[0]), number, FLOATS(s[0]), TABLE(s[0]), output, output_length);
+        return viskorrel_3d_line_interpolate_point(BLOB(s[0]), q->number, FLOATS(s[0]), TABLE(s[0]), output, output_length);
     }
     return unknown;
 }
@@ -98,15 +98,15 @@ static viskorrel_reply ask(uint32_t operation, const struct side *s, double numb
  * A workspace that is too short (15) is refused only after everything else was checked, and nothing has changed then: make room, ask again,
  * once for each side.
  */
-int measure(struct measurer *m, uint32_t operation, double number, uint8_t *output, size_t output_length, viskorrel_reply *reply)
+int measure(struct measurer *m, const struct question *q, uint8_t *output, size_t output_length, viskorrel_reply *reply)
 {
     int again;
 
-    *reply = ask(operation, m->sides, number, output, output_length);
+    *reply = ask(q, m->sides, output, output_length);
     for (again = 0; again < 2 && reply->outcome == VISKORREL_REFUSED && reply->number == 15; again++) {
         if (!make_room(m, &m->sides[reply->side == 2 ? 1 : 0]))
             return 0;
-        *reply = ask(operation, m->sides, number, output, output_length);
+        *reply = ask(q, m->sides, output, output_length);
     }
     return 1;
 }
@@ -118,9 +118,11 @@ static const uint8_t point[29] = {1, 0xE9, 3};
 
 int read_blob(struct measurer *m, const uint8_t *blob, size_t length, viskorrel_reply *reply)
 {
+    static const struct question max_distance = {VISKORREL_MAX_DISTANCE, 0, 0};
+
     set_blob(&m->sides[0], blob, length);
     set_blob(&m->sides[1], point, sizeof point);
-    return measure(m, VISKORREL_MAX_DISTANCE, 0, 0, 0, reply);
+    return measure(m, &max_distance, 0, 0, reply);
 }
 
 viskorrel_reply refusal_of(struct measurer *m, const uint8_t *blob, size_t length)

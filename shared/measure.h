@@ -34,8 +34,15 @@ void release_workspaces(struct measurer *m);
 /* Sets a side's blob; null stands for one of no bytes. */
 void set_blob(struct side *side, const uint8_t *blob, size_t length);
 
+/* What is asked of the blobs that were set. */
+struct question {
+    uint32_t operation;
+    double number; /* where it takes one */
+    uint32_t rule; /* where it takes one */
+};
+
 /* An operation on the blobs that were set; 0 if there is no memory. */
-int measure(struct measurer *m, uint32_t operation, double number, uint8_t *output, size_t output_length, viskorrel_reply *reply);
+int measure(struct measurer *m, const struct question *q, uint8_t *output, size_t output_length, viskorrel_reply *reply);
 
 /* Reads a blob as side 1 of an operation on two, so that its coordinates stand in the workspace; 0 if there is no memory. */
 int read_blob(struct measurer *m, const uint8_t *blob, size_t length, viskorrel_reply *reply);

@@ -22,6 +22,7 @@ EXPORTED const char *viskorrel_words(uint32_t number)
         "interpolation: there is a point or face, or no segment",
         "the floats or the table of that side are too short",
         "the output is too short, even where the answer is nothing",
+        "operations by the least distance: the rule is a number other than 1 or 2",
     };
 
     return number >= 1 && number <= sizeof words / sizeof words[0] ? words[number - 1] : "a number outside the table";
