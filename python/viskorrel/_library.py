@@ -5,7 +5,7 @@ import threading
 
 VARIABLE = "VISKORREL_LIBRARY"
 NAME = "libviskorrel.so"
-SONAME = "libviskorrel.so.1"
+SONAME = "libviskorrel.so.2"
 
 NOTHING, ANSWERED, REFUSED, NO_SURFACE = 0, 1, 2, 3
 POINT_BYTES, LINE_BYTES = 37, 65
@@ -46,17 +46,18 @@ BLOB = [ctypes.c_char_p, size]  # the address of the bytes themselves; they are 
 WORKSPACE = [address, size, address, size]
 OUTPUT = [address, size]
 NUMBER = [ctypes.c_double]
+RULE = [ctypes.c_uint32]
 
 # each function: what it returns, what it takes
 FUNCTIONS = {
     "viskorrel_sizes": (Pair, BLOB),
-    "viskorrel_3d_distance": (Reply, BLOB * 2 + WORKSPACE * 2),
+    "viskorrel_3d_distance": (Reply, BLOB * 2 + RULE + WORKSPACE * 2),
     "viskorrel_3d_max_distance": (Reply, BLOB * 2 + WORKSPACE * 2),
-    "viskorrel_3d_intersects": (Reply, BLOB * 2 + WORKSPACE * 2),
-    "viskorrel_3d_dwithin": (Reply, BLOB * 2 + NUMBER + WORKSPACE * 2),
+    "viskorrel_3d_intersects": (Reply, BLOB * 2 + RULE + WORKSPACE * 2),
+    "viskorrel_3d_dwithin": (Reply, BLOB * 2 + NUMBER + RULE + WORKSPACE * 2),
     "viskorrel_3d_dfully_within": (Reply, BLOB * 2 + NUMBER + WORKSPACE * 2),
-    "viskorrel_3d_closest_point": (Reply, BLOB * 2 + WORKSPACE * 2 + OUTPUT),
-    "viskorrel_3d_shortest_line": (Reply, BLOB * 2 + WORKSPACE * 2 + OUTPUT),
+    "viskorrel_3d_closest_point": (Reply, BLOB * 2 + RULE + WORKSPACE * 2 + OUTPUT),
+    "viskorrel_3d_shortest_line": (Reply, BLOB * 2 + RULE + WORKSPACE * 2 + OUTPUT),
     "viskorrel_3d_longest_line": (Reply, BLOB * 2 + WORKSPACE * 2 + OUTPUT),
     "viskorrel_3d_line_interpolate_point": (Reply, BLOB + NUMBER + WORKSPACE + OUTPUT),
     "viskorrel_read": (Pair, BLOB + WORKSPACE),
@@ -64,9 +65,9 @@ FUNCTIONS = {
     "viskorrel_patches": (Pair, BLOB),
     "viskorrel_next_patch": (Pair, BLOB + [size] * 2),
     "viskorrel_root_digits": (Root, NUMBER),
-    "viskorrel_batch": (ctypes.c_int, [ctypes.c_uint32] + [address] * 4),
+    "viskorrel_batch": (ctypes.c_int, [ctypes.c_uint32] + [address] * 2 + RULE + [address] * 2),
     "viskorrel_boxes": (ctypes.c_int, [address] * 2),
-    "viskorrel_nearest": (ctypes.c_int, [address] * 4 + [size] * 2 + [address]),
+    "viskorrel_nearest": (ctypes.c_int, [address] * 2 + RULE + [address] * 2 + [size] * 2 + [address]),
     "viskorrel_blob_refusal": (Reply, BLOB),
     "viskorrel_version": (ctypes.c_char_p, []),
     "viskorrel_words": (ctypes.c_char_p, [ctypes.c_uint32]),

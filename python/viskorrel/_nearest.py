@@ -7,6 +7,7 @@ from array import array
 from ._geometry import Blobs
 from ._library import ANSWERED, REFUSED, NearestArrays, library
 from ._refusal import Refusal
+from ._rule import rule_number
 from .batch import check, listed
 
 PAIRS = 1 << 19    # in one call of C, if they are all measured: between calls progress is told and Ctrl-C is heard
@@ -44,15 +45,15 @@ class Nearest:
                 self.faults[k] = self.places[k], self.distances[k]
 
 
-def nearest(a, b, boxes=True, threads=None, progress=None):
-    """For each geometry of `a` the nearest of `b` by `distance`, as a Nearest.
+def nearest(a, b, boxes=True, threads=None, progress=None, rule=1):
+    """For each geometry of `a` the nearest of `b` by `distance` with this rule, as a Nearest.
 
     boxes=False measures every pair; the answers are the same. `progress` is called with the number of elements that are done.
     """
     a, b = (part if isinstance(part, Blobs) else Blobs(part) for part in (a, b))
-    answers = Nearest(len(a))
+    answers, rule = Nearest(len(a)), rule_number(rule)
     if len(a) and len(b):
-        run(a, b, answers, bool(boxes), threads or processors(), progress or (lambda done: None))
+        run(a, b, rule, answers, bool(boxes), threads or processors(), progress or (lambda done: None))
     answers.finish(a, b)
     return answers
 
@@ -64,10 +65,10 @@ def processors():
         return os.cpu_count() or 1
 
 
-def run(a, b, answers, boxes, threads, progress):
+def run(a, b, rule, answers, boxes, threads, progress):
     lists, arrays = (listed(a), listed(b)), answers.addresses()
     rooms = [box_list(part) for part in lists] if boxes else [None, None]
-    given = [ctypes.addressof(part) for part in lists] + [room.buffer_info()[0] if room else None for room in rooms]
+    given = [*map(ctypes.addressof, lists), rule, *(room.buffer_info()[0] if room else None for room in rooms)]
     step = max(1, min(PAIRS // len(b), -(-len(a) // threads)))
 
     def part(start):

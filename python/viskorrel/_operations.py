@@ -5,6 +5,7 @@ import threading
 from ._geometry import blob
 from ._library import ANSWERED, COORDINATE_FLOATS, LINE_BYTES, NO_SURFACE, POINT_BYTES, REFUSED, RUN_NUMBERS, library
 from ._refusal import Refusal
+from ._rule import rule_number
 
 TOO_SHORT = 15  # the refusal of a workspace
 
@@ -33,12 +34,12 @@ class Memory(threading.local):
 MEMORY = Memory()
 
 
-def ask(name, blobs, number=(), output=()):
+def ask(name, blobs, numbers=(), output=()):
     """The reply to a call. A workspace is looked at last, and a refused call changes nothing: where it is too short, lengthen, ask again."""
     function = getattr(library(), name)
     given = [part for geometry in blobs for part in (geometry, len(geometry))]
     for _ in range(3):
-        reply = function(*given, *number, *MEMORY.workspaces[:4 * len(blobs)], *output)
+        reply = function(*given, *numbers, *MEMORY.workspaces[:4 * len(blobs)], *output)
         if reply.outcome != REFUSED or reply.number != TOO_SHORT:
             break
         MEMORY.lengthen(reply.side - 1, blobs[reply.side - 1])
@@ -47,20 +48,23 @@ def ask(name, blobs, number=(), output=()):
     return reply
 
 
-def value(name, a, b):
-    reply = ask(name, (blob(a), blob(b)))
+def value(name, a, b, numbers=()):
+    reply = ask(name, (blob(a), blob(b)), numbers)
     return reply.value if reply.outcome == ANSWERED else None
 
 
-def written(name, length, blobs, number=()):
+def written(name, length, blobs, numbers=()):
     output = MEMORY.output
-    reply = ask(name, blobs, number, (ctypes.addressof(output), length))
+    reply = ask(name, blobs, numbers, (ctypes.addressof(output), length))
     return output.raw[:length] if reply.outcome == ANSWERED else None
 
 
-def distance(a, b):
-    """The least distance (may be NaN); None where a side has nothing to measure."""
-    return value("viskorrel_3d_distance", a, b)
+# The five operations by the least distance take a rule. By 1 a segment that passes through a triangle is measured at its ends and at the
+# triangle's edges; by 2 it touches the triangle where it crosses. Any other number raises Refusal 17.
+
+def distance(a, b, rule=1):
+    """The least distance (may be NaN) by a rule; None where a side has nothing to measure."""
+    return value("viskorrel_3d_distance", a, b, (rule_number(rule),))
 
 
 def max_distance(a, b):
@@ -68,14 +72,14 @@ def max_distance(a, b):
     return value("viskorrel_3d_max_distance", a, b)
 
 
-def intersects(a, b):
-    """Whether the least distance is 0."""
-    return ask("viskorrel_3d_intersects", (blob(a), blob(b))).outcome == ANSWERED
+def intersects(a, b, rule=1):
+    """Whether the least distance by a rule is 0."""
+    return ask("viskorrel_3d_intersects", (blob(a), blob(b)), (rule_number(rule),)).outcome == ANSWERED
 
 
-def dwithin(a, b, d):
-    """Whether the least distance is at most d."""
-    return ask("viskorrel_3d_dwithin", (blob(a), blob(b)), (d,)).outcome == ANSWERED
+def dwithin(a, b, d, rule=1):
+    """Whether the least distance by a rule is at most d."""
+    return ask("viskorrel_3d_dwithin", (blob(a), blob(b)), (d, rule_number(rule))).outcome == ANSWERED
 
 
 def dfully_within(a, b, d):
@@ -83,14 +87,14 @@ def dfully_within(a, b, d):
     return ask("viskorrel_3d_dfully_within", (blob(a), blob(b)), (d,)).outcome == ANSWERED
 
 
-def closest_point(a, b):
-    """The point of a at the least distance, a GeoPackage blob; None where a side has nothing to measure."""
-    return written("viskorrel_3d_closest_point", POINT_BYTES, (blob(a), blob(b)))
+def closest_point(a, b, rule=1):
+    """The point of a at the least distance by a rule, a GeoPackage blob; None where a side has nothing to measure."""
+    return written("viskorrel_3d_closest_point", POINT_BYTES, (blob(a), blob(b)), (rule_number(rule),))
 
 
-def shortest_line(a, b):
-    """The line from a to b at the least distance, a GeoPackage blob; None where a side has nothing to measure."""
-    return written("viskorrel_3d_shortest_line", LINE_BYTES, (blob(a), blob(b)))
+def shortest_line(a, b, rule=1):
+    """The line from a to b at the least distance by a rule, a GeoPackage blob; None where a side has nothing to measure."""
+    return written("viskorrel_3d_shortest_line", LINE_BYTES, (blob(a), blob(b)), (rule_number(rule),))
 
 
 def longest_line(a, b):

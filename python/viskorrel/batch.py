@@ -3,6 +3,8 @@
 Each of `a` and `b` is one geometry (against all of the other) or a sequence (element by element), or both are sequences with
 `pairs=(places in a, places in b)`. Where an element is refused, the first Refusal is raised, with its `element`; refused="tell" gives the
 answers of the others, and `answers.refusals` has each refusal by its element.
+
+The operations by the least distance take a rule, 1 or 2, which is that of all elements.
 """
 import ctypes
 from array import array
@@ -10,6 +12,7 @@ from array import array
 from ._geometry import Blobs, is_one
 from ._library import ANSWERED, LINE_BYTES, POINT_BYTES, REFUSED, AnswerArrays, BlobList, Elements, library
 from ._refusal import Refusal
+from ._rule import rule_number
 
 numpy = None  # looked for when the first batch runs: to import it takes longer than a small job; False: not there
 
@@ -148,10 +151,11 @@ def look_for_numpy():
         numpy = found
 
 
-def run(operation, a, b, number=None, pairs=None, refused="raise"):
+def run(operation, a, b, number=None, pairs=None, refused="raise", rule=1):
     look_for_numpy()
     if refused not in ("raise", "tell"):
         raise ValueError('refused is "raise" or "tell"')
+    rule = rule_number(rule)
     a = ready(a)
     b = ready(b) if b is not None else (None, True)
     count, first, second = elements(a, b, pairs)
@@ -162,7 +166,7 @@ def run(operation, a, b, number=None, pairs=None, refused="raise"):
     for given.start in range(0, count, CALL):
         given.end = min(given.start + CALL, count)
         check(library().viskorrel_batch(
-            operation, ctypes.addressof(lists[0]), ctypes.addressof(lists[1]) if lists[1] is not None else None, ctypes.addressof(given),
+            operation, ctypes.addressof(lists[0]), ctypes.addressof(lists[1]) if lists[1] is not None else None, rule, ctypes.addressof(given),
             ctypes.addressof(arrays)))
 
     def spoken_of(element, side):
@@ -176,17 +180,17 @@ def run(operation, a, b, number=None, pairs=None, refused="raise"):
 
 
 def on_two(name, operation):
-    """The function of an operation on two geometries."""
+    """The function of an operation on two geometries by the greatest distance."""
     def function(a, b, pairs=None, refused="raise"):
         return run(operation, a, b, None, pairs, refused)
     return named(name, function)
 
 
-def within(name, operation):
-    """The function of a question about two geometries and a distance."""
-    def function(a, b, d, pairs=None, refused="raise"):
-        """d is one number for all elements, or one for each."""
-        return run(operation, a, b, d, pairs, refused)
+def by_rule(name, operation):
+    """The function of an operation on two geometries by the least distance."""
+    def function(a, b, pairs=None, refused="raise", rule=1):
+        """rule is 1 or 2, for all elements."""
+        return run(operation, a, b, None, pairs, refused, rule)
     return named(name, function)
 
 
@@ -195,14 +199,22 @@ def named(name, function):
     return function
 
 
-distance = on_two("distance", DISTANCE)
+distance = by_rule("distance", DISTANCE)
 max_distance = on_two("max_distance", MAX_DISTANCE)
-intersects = on_two("intersects", INTERSECTS)
-dwithin = within("dwithin", DWITHIN)
-dfully_within = within("dfully_within", DFULLY_WITHIN)
-closest_point = on_two("closest_point", CLOSEST_POINT)
-shortest_line = on_two("shortest_line", SHORTEST_LINE)
+intersects = by_rule("intersects", INTERSECTS)
+closest_point = by_rule("closest_point", CLOSEST_POINT)
+shortest_line = by_rule("shortest_line", SHORTEST_LINE)
 longest_line = on_two("longest_line", LONGEST_LINE)
+
+
+def dwithin(a, b, d, pairs=None, refused="raise", rule=1):
+    """d is one number for all elements, or one for each; rule is 1 or 2, for all elements."""
+    return run(DWITHIN, a, b, d, pairs, refused, rule)
+
+
+def dfully_within(a, b, d, pairs=None, refused="raise"):
+    """d is one number for all elements, or one for each."""
+    return run(DFULLY_WITHIN, a, b, d, pairs, refused)
 
 
 def line_interpolate_point(lines, fraction, refused="raise"):
