@@ -18,11 +18,11 @@ SQLITE_EXTENSION_INIT1
 
 /* What a function takes, and what it gives. */
 enum form {
-    DISTANCE,     /* two blobs; a number or NULL */
-    QUESTION,     /* two blobs; 0 or 1 */
-    WITHIN,       /* two blobs and a distance; 0 or 1 */
-    POINT,        /* two blobs; a point or NULL */
-    LINE,         /* two blobs; a line or NULL */
+    DISTANCE,     /* two blobs, and a rule where it takes one; a number or NULL */
+    QUESTION,     /* two blobs and a rule; 0 or 1 */
+    WITHIN,       /* two blobs and a distance, and a rule where it takes one; 0 or 1 */
+    POINT,        /* two blobs and a rule; a point or NULL */
+    LINE,         /* two blobs, and a rule where it takes one; a line or NULL */
     INTERPOLATED, /* a blob and a fraction; a point */
     PATCH,        /* a blob and a number from 1 on; a part of the blob, or NULL */
     REFUSAL,      /* anything; NULL or words */
@@ -32,27 +32,29 @@ enum form {
 struct function {
     const char *name;
     enum form form;
-    int arguments;      /* how many */
+    int arguments;      /* how many, the rule aside */
     int blobs;          /* how many of them, from the first on, are blobs */
+    int rules;          /* whether a rule may stand after them */
     uint32_t operation; /* of the library, where it is a measure: all but the last three */
 };
 
 static const struct function functions[] = {
-    {"ST_3DDistance", DISTANCE, 2, 2, VISKORREL_DISTANCE},
-    {"ST_3DMaxDistance", DISTANCE, 2, 2, VISKORREL_MAX_DISTANCE},
-    {"ST_3DIntersects", QUESTION, 2, 2, VISKORREL_INTERSECTS},
-    {"ST_3DDWithin", WITHIN, 3, 2, VISKORREL_DWITHIN},
-    {"ST_3DDFullyWithin", WITHIN, 3, 2, VISKORREL_DFULLY_WITHIN},
-    {"ST_3DClosestPoint", POINT, 2, 2, VISKORREL_CLOSEST_POINT},
-    {"ST_3DShortestLine", LINE, 2, 2, VISKORREL_SHORTEST_LINE},
-    {"ST_3DLongestLine", LINE, 2, 2, VISKORREL_LONGEST_LINE},
-    {"ST_3DLineInterpolatePoint", INTERPOLATED, 2, 1, VISKORREL_LINE_INTERPOLATE_POINT},
-    {"ST_PatchN", PATCH, 2, 1, 0},
-    {"Viskorrel_Refusal", REFUSAL, 1, 0, 0},
-    {"Viskorrel_Version", VERSION, 0, 0, 0},
+    {"ST_3DDistance", DISTANCE, 2, 2, 1, VISKORREL_DISTANCE},
+    {"ST_3DMaxDistance", DISTANCE, 2, 2, 0, VISKORREL_MAX_DISTANCE},
+    {"ST_3DIntersects", QUESTION, 2, 2, 1, VISKORREL_INTERSECTS},
+    {"ST_3DDWithin", WITHIN, 3, 2, 1, VISKORREL_DWITHIN},
+    {"ST_3DDFullyWithin", WITHIN, 3, 2, 0, VISKORREL_DFULLY_WITHIN},
+    {"ST_3DClosestPoint", POINT, 2, 2, 1, VISKORREL_CLOSEST_POINT},
+    {"ST_3DShortestLine", LINE, 2, 2, 1, VISKORREL_SHORTEST_LINE},
+    {"ST_3DLongestLine", LINE, 2, 2, 0, VISKORREL_LONGEST_LINE},
+    {"ST_3DLineInterpolatePoint", INTERPOLATED, 2, 1, 0, VISKORREL_LINE_INTERPOLATE_POINT},
+    {"ST_PatchN", PATCH, 2, 1, 0, 0},
+    {"Viskorrel_Refusal", REFUSAL, 1, 0, 0, 0},
+    {"Viskorrel_Version", VERSION, 0, 0, 0, 0},
 };
 
 #define FUNCTIONS (sizeof functions / sizeof functions[0])
+#define NO_RULE 17 /* the refusal */
 
 /* ---- Lent memory ---- */
 
@@ -66,7 +68,7 @@ struct binding {
 
 /* One for each loading: SQLite runs the functions of one connection one at a time. */
 struct connection {
-    size_t users; /* bindings that SQLite still holds, and the loading while it lasts */
+    size_t users; /* functions, by name and number of arguments, that SQLite still holds, and the loading while it lasts */
     struct measurer measurer;
     struct binding bindings[FUNCTIONS];
 };
@@ -114,19 +116,28 @@ static char *words_of(uint32_t number, const uint8_t *blob, size_t length)
 
 /* ---- Calls ---- */
 
+/* The rule of a value; 0, which is none, where it is anything but the whole number 1 or 2: a longer one is not to be cut to one of them. */
+static uint32_t rule_of(sqlite3_value *value)
+{
+    sqlite3_int64 number = sqlite3_value_type(value) == SQLITE_INTEGER ? sqlite3_value_int64(value) : 0;
+
+    return number == VISKORREL_RULE_1 || number == VISKORREL_RULE_2 ? (uint32_t)number : 0;
+}
+
 /* A function, and what the arguments say; the blobs are those of the measurer's sides. */
 struct call {
     const struct function *function;
     struct measurer *measurer;
-    double number;       /* a distance or a fraction */
-    sqlite3_int64 index; /* of a patch */
+    struct question question; /* its number is a distance or a fraction */
+    sqlite3_int64 index;      /* of a patch */
 };
 
 static void refused(sqlite3_context *context, const struct call *c, uint32_t number, uint32_t side)
 {
     const struct function *f = c->function;
     const struct side *s = side >= 1 && side <= 2 ? &c->measurer->sides[side - 1] : 0;
-    int argument = number == 1 || number == 2 ? f->blobs + 1 : (int)side; /* the number stands after the blobs */
+    /* the number stands after the blobs, the rule after all others */
+    int argument = number == NO_RULE ? f->arguments + 1 : number == 1 || number == 2 ? f->blobs + 1 : (int)side;
     char *text = s ? words_of(number, s->blob, s->length) : words_of(number, 0, 0);
 
     if (text)
@@ -136,18 +147,12 @@ static void refused(sqlite3_context *context, const struct call *c, uint32_t num
     sqlite3_free(text);
 }
 
-/* Reads the arguments; 0 if it has given the result already: NULL or an error. */
-static int read_arguments(sqlite3_context *context, sqlite3_value **values, struct call *call)
+/* Sets the blobs; 0 if one is none, or if there is no memory: the error is given. */
+static int read_blobs(sqlite3_context *context, sqlite3_value **values, const struct call *call)
 {
-    struct binding *binding = sqlite3_user_data(context);
-    const struct function *f = binding->function;
-    int i, type;
+    const struct function *f = call->function;
+    int i;
 
-    call->function = f;
-    call->measurer = &binding->connection->measurer;
-    for (i = 0; i < f->arguments; i++)
-        if (sqlite3_value_type(values[i]) == SQLITE_NULL)
-            return 0;
     for (i = 0; i < f->blobs; i++) {
         const uint8_t *blob;
         size_t length;
@@ -164,6 +169,25 @@ static int read_arguments(sqlite3_context *context, sqlite3_value **values, stru
         }
         set_blob(&call->measurer->sides[i], blob, length);
     }
+    return 1;
+}
+
+/* Reads the arguments; 0 if it has given the result already: NULL or an error. */
+static int read_arguments(sqlite3_context *context, int count, sqlite3_value **values, struct call *call)
+{
+    struct binding *binding = sqlite3_user_data(context);
+    const struct function *f = binding->function;
+    int i, type;
+
+    call->function = f;
+    call->measurer = &binding->connection->measurer;
+    call->question.operation = f->operation;
+    for (i = 0; i < count; i++)
+        if (sqlite3_value_type(values[i]) == SQLITE_NULL)
+            return 0;
+    if (!read_blobs(context, values, call))
+        return 0;
+    call->question.rule = count > f->arguments ? rule_of(values[f->arguments]) : VISKORREL_RULE_1;
     if (f->blobs == f->arguments)
         return 1;
     type = sqlite3_value_type(values[f->blobs]);
@@ -178,7 +202,7 @@ static int read_arguments(sqlite3_context *context, sqlite3_value **values, stru
             error(context, f, f->blobs + 1, "not a number");
             return 0;
         }
-        call->number = sqlite3_value_double(values[f->blobs]);
+        call->question.number = sqlite3_value_double(values[f->blobs]);
     }
     return 1;
 }
@@ -186,14 +210,13 @@ static int read_arguments(sqlite3_context *context, sqlite3_value **values, stru
 /* Every measure: all functions but the last three. */
 static void operation(sqlite3_context *context, int count, sqlite3_value **values)
 {
-    struct call call = {0, 0, 0, 0};
+    struct call call = {0};
     uint8_t output[VISKORREL_LINE_BYTES];
     viskorrel_reply reply;
 
-    (void)count;
-    if (!read_arguments(context, values, &call))
+    if (!read_arguments(context, count, values, &call))
         return;
-    if (!measure(call.measurer, call.function->operation, call.number, output, sizeof output, &reply)) {
+    if (!measure(call.measurer, &call.question, output, sizeof output, &reply)) {
         sqlite3_result_error_nomem(context);
         return;
     }
@@ -231,13 +254,12 @@ static void operation(sqlite3_context *context, int count, sqlite3_value **value
 /* ST_PatchN: NULL where there is no such patch, or no surface. */
 static void patch(sqlite3_context *context, int count, sqlite3_value **values)
 {
-    struct call call = {0, 0, 0, 0};
+    struct call call = {0};
     const struct side *surface;
     viskorrel_pair part;
     uint64_t n;
 
-    (void)count;
-    if (!read_arguments(context, values, &call))
+    if (!read_arguments(context, count, values, &call))
         return;
     surface = &call.measurer->sides[0];
     /* Below 1 there is no patch, nor at the greatest number: a surface counts them in 32 bits. */
@@ -300,6 +322,21 @@ static void (*body(enum form form))(sqlite3_context *, int, sqlite3_value **)
     }
 }
 
+/* Makes a function known, once without a rule and once with it where it may have one. */
+static int create(sqlite3 *db, struct binding *binding)
+{
+    const struct function *f = binding->function;
+    int rc = SQLITE_OK, more;
+
+    for (more = 0; more <= f->rules && rc == SQLITE_OK; more++) {
+        binding->connection->users++; /* SQLite releases it also where it fails */
+        rc = sqlite3_create_function_v2(
+            db, f->name, f->arguments + more, SQLITE_UTF8 | SQLITE_DETERMINISTIC | SQLITE_INNOCUOUS, binding, body(f->form), 0, 0,
+            release_binding);
+    }
+    return rc;
+}
+
 EXPORTED int sqlite3_viskorrelsqlite_init(sqlite3 *db, char **message, const sqlite3_api_routines *api)
 {
     struct connection *connection;
@@ -313,16 +350,11 @@ EXPORTED int sqlite3_viskorrelsqlite_init(sqlite3 *db, char **message, const sql
     connection->users = 1;
     connection->measurer = measurer_of(allocate, sqlite3_free);
     for (i = 0; i < FUNCTIONS && rc == SQLITE_OK; i++) {
-        const struct function *f = &functions[i];
-
-        connection->bindings[i].function = f;
+        connection->bindings[i].function = &functions[i];
         connection->bindings[i].connection = connection;
-        connection->users++; /* SQLite releases it also where it fails */
-        rc = sqlite3_create_function_v2(
-            db, f->name, f->arguments, SQLITE_UTF8 | SQLITE_DETERMINISTIC | SQLITE_INNOCUOUS, &connection->bindings[i],
-            body(f->form), 0, 0, release_binding);
+        rc = create(db, &connection->bindings[i]);
         if (rc != SQLITE_OK)
-            *message = sqlite3_mprintf("%s: %s", f->name, sqlite3_errmsg(db));
+            *message = sqlite3_mprintf("%s: %s", functions[i].name, sqlite3_errmsg(db));
     }
     release(connection);
     return rc;
