@@ -229,7 +229,7 @@ def link():
 def link_command():
     shared = os.path.join(ROOT, "shared")
     return [os.environ.get("CC", "cc"), "-std=c99", "-O2", "-Wall", "-Wextra", "-fPIC", "-fvisibility=hidden", "-shared",
-            "-Wl,-soname,libviskorrel.so.1", "-Wl,-z,noexecstack", f"-Wl,--version-script={os.path.join(shared, 'exports.map')}",
+            "-Wl,-soname,libviskorrel.so.2", "-Wl,-z,noexecstack", f"-Wl,--version-script={os.path.join(shared, 'exports.map')}",
             "-I", os.path.join(ROOT, "include"), *(os.path.join(shared, file) for file in ("batch.c", "measure.c", "words.c")),
             "-Wl,--whole-archive", ARCHIVE, "-Wl,--no-whole-archive"]
 

@@ -19,9 +19,9 @@ class Segment(namedtuple("Segment", "id a b start end")):
     def blob(self):
         return line([self.a, self.b])
 
-    def chainage(self, blob):
-        """Of the place that is nearest to a blob in 3D."""
-        return self.foot(shortest(blob, self.blob)[1], 3)[1]
+    def chainage(self, blob, rule):
+        """Of the place that is nearest to a blob in 3D, by a rule."""
+        return self.foot(shortest(blob, self.blob, rule)[1], 3)[1]
 
     def foot(self, place, axes):
         """The distance of a place in so many axes, and the chainage there."""

@@ -50,12 +50,12 @@ class DigList(Counted):
         self.chainage, self.passages, self.warnings, self.stamp = chainage, False, [], None
 
 
-def make(features, tolerance, chainage, box_test=True):
+def make(features, tolerance, chainage, measuring):
     """`features`: lists by role. `chainage`: of the centreline."""
-    dents = matched(features["dents"], features["struck"], tolerance, box_test)
+    dents = matched(features["dents"], features["struck"], tolerance, measuring)
     repeated(dents)
     if chainage.there():
-        along(dents, chainage, box_test)
+        along(dents, chainage, measuring)
     groups = by_group(dents, features["welds"])
     widths(groups)
     groups.sort(key=place_in_list)
@@ -64,14 +64,14 @@ def make(features, tolerance, chainage, box_test=True):
     return listed
 
 
-def matched(dents, struck, tolerance, box_test):
+def matched(dents, struck, tolerance, measuring):
     """Each dent's nearest struck-off dent; of several as near, the first by feature id."""
     listed = []
-    for dent, (at, least) in zip(dents, matching.nearest(dents, struck, "pairs", box_test)):
+    for dent, (at, least) in zip(dents, matching.nearest(dents, struck, "pairs", measuring)):
         if at is None:
             listed.append(Dent(dent, None, None, NEW))
         else:
-            state = STRUCK if dwithin(dent.blob, struck[at].blob, tolerance) else NEW
+            state = STRUCK if dwithin(dent.blob, struck[at].blob, tolerance, measuring.rule) else NEW
             listed.append(Dent(dent, struck[at], least, state))
     return listed
 
@@ -85,11 +85,11 @@ def repeated(dents):
             dent.same_as = first
 
 
-def along(dents, chainage, box_test):
+def along(dents, chainage, measuring):
     """The place of the centreline nearest to each dent."""
-    found = matching.nearest([dent.feature for dent in dents], chainage.segments, "places on the centreline", box_test)
+    found = matching.nearest([dent.feature for dent in dents], chainage.segments, "places on the centreline", measuring)
     for dent, (at, off) in zip(dents, found):
-        dent.off, dent.chainage = off, chainage.segments[at].chainage(dent.feature.blob)
+        dent.off, dent.chainage = off, chainage.segments[at].chainage(dent.feature.blob, measuring.rule)
 
 
 def by_group(dents, welds):

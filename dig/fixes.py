@@ -68,9 +68,9 @@ def has_m(code):
     return thousands in (2, 3) if thousands in (1, 2, 3) else bool(code & M_FLAG)
 
 
-def pass_by(listed, fixes, box_test):
+def pass_by(listed, fixes, measuring):
     """Notes at each dig the fix nearest to its longest line in 3D, the first by id of several as near."""
     lines = [DigLine(dig.name, line([dig.start, dig.end])) for dig in listed.digs]
-    for dig, (at, distance) in zip(listed.digs, matching.nearest(lines, fixes, "digs with fixes", box_test)):
+    for dig, (at, distance) in zip(listed.digs, matching.nearest(lines, fixes, "digs with fixes", measuring)):
         dig.passage = Passage(fixes[at].hour, fixes[at], distance)
     listed.passages = True

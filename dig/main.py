@@ -11,6 +11,7 @@ import viskorrel
 from dig import diglist, listing, ready, stamp
 from dig.chainage import Chainage
 from dig.geopackage import GeoPackage
+from dig.matching import Measuring
 from dig.outputs import Outputs
 from dig.problems import Problems
 from viskorrel._library import NAME, VARIABLE
@@ -61,6 +62,8 @@ def parser():
     options.add_argument("--group", metavar="COLUMN", help=f"the group of dents and welds, default: {' or '.join(GROUP)}")
     options.add_argument("--label", metavar="COLUMN", help="what the crew calls a dent, default: its feature id")
     options.add_argument("--tolerance", metavar="METRES", type=metres, default=0.25, help="default: 0.25")
+    options.add_argument("--rule", type=int, choices=(1, 2), default=1,
+                         help="how what passes through a face is measured: 1, at its ends and at the face's edges (default); 2, it touches the face")
     options.add_argument("--metres", action="store_true", help="all tables are in metres of one system, whatever the file says of it")
     for form, use in FORMS.items():
         options.add_argument(f"--{form}", metavar="FILE", help=use)
@@ -203,11 +206,12 @@ def make(asked, package):
     chainage = Chainage(features["pipe"])
     if asked.pipe and not chainage.there():
         raise Problems(f"{tables['pipe']}: there is no line in it, so it is no centreline")
-    listed = diglist.make(features, asked.tolerance, chainage, not asked.no_box_test)
+    measuring = Measuring(asked.rule, not asked.no_box_test)
+    listed = diglist.make(features, asked.tolerance, chainage, measuring)
     if "fixes" in tables:
-        fixes.pass_by(listed, tracked, not asked.no_box_test)
+        fixes.pass_by(listed, tracked, measuring)
     listed.warnings = package.opened.warnings + listed.warnings
-    listed.stamp = stamp.of(package.opened, asked.tolerance, system, library.path)
+    listed.stamp = stamp.of(package.opened, asked.tolerance, asked.rule, system, library.path)
     for line in listed.warnings:
         print(f"warning: {line}", file=sys.stderr)
     srids = dict.fromkeys(package.tables[table][1] for table in there)

@@ -1,6 +1,7 @@
 """The nearest of many: each feature of one list against all of another, measured by the library, with progress."""
 import sys
 import time
+from collections import namedtuple
 
 import viskorrel
 from dig.measure import told
@@ -8,6 +9,9 @@ from dig.problems import Problems
 
 WAIT = 0.3      # seconds between signs of progress on a terminal
 TOLD = 5.0      # and elsewhere
+
+# how least distances are measured: by which pair rule, and whether boxes may pass pairs over, which changes no list
+Measuring = namedtuple("Measuring", "rule box_test", defaults=[1, True])
 
 
 class Progress:
@@ -31,13 +35,14 @@ class Progress:
             print("\r\033[K", end="", file=sys.stderr, flush=True)
 
 
-def nearest(ones, many, noun, box_test=True):
+def nearest(ones, many, noun, measuring):
     """For each of `ones` the place in `many` of the nearest, the first of several as near, and the distance; (None, None) if `many` is empty."""
     if not many:
         return [(None, None)] * len(ones)
     progress = Progress(len(ones), len(many), noun)
     try:
-        found = viskorrel.nearest([one.blob for one in ones], [other.blob for other in many], boxes=box_test, progress=progress.at)
+        found = viskorrel.nearest([one.blob for one in ones], [other.blob for other in many],
+                                  boxes=measuring.box_test, progress=progress.at, rule=measuring.rule)
     finally:
         progress.end()
     if found.faults:

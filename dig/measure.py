@@ -12,9 +12,9 @@ def longest(a, b):
     return line and (viskorrel.max_distance(a, b), *ends(line))
 
 
-def shortest(a, b):
-    """The two ends of the shortest line; None: there is none."""
-    line = viskorrel.shortest_line(a, b)
+def shortest(a, b, rule):
+    """The two ends of the shortest line by a rule; None: there is none."""
+    line = viskorrel.shortest_line(a, b, rule)
     return line and ends(line)
 
 
