@@ -38,6 +38,8 @@ impl Op {
     ];
     pub const TWO_BLOBS: &[Op] = Op::ALL.split_at(8).0;
     pub const ONE_BLOB: &[Op] = Op::ALL.split_at(8).1;
+    /// Those that run the closest sweep.
+    pub const BY_RULE: &[Op] = &[Op::Distance, Op::DWithin, Op::Intersects, Op::ClosestPoint, Op::ShortestLine];
 
     pub fn name(self) -> &'static str {
         match self {
@@ -58,6 +60,10 @@ impl Op {
 
     pub fn two_blobs(self) -> bool {
         Op::TWO_BLOBS.contains(&self)
+    }
+
+    pub fn takes_rule(self) -> bool {
+        Op::BY_RULE.contains(&self)
     }
 
     pub fn takes_number(self) -> bool {
@@ -99,6 +105,8 @@ pub struct Call {
     pub b: Vec<u8>,
     /// The distance or the fraction.
     pub number: f64,
+    /// The pair rule, of an operation that takes one.
+    pub rule: u32,
     /// Which patch.
     pub index: u64,
     pub lent: Lent,
@@ -116,6 +124,9 @@ impl std::fmt::Display for Call {
         }
         if self.op.takes_number() {
             write!(f, " number={:?} ({:016X})", self.number, self.number.to_bits())?;
+        }
+        if self.op.takes_rule() {
+            write!(f, " rule={}", self.rule)?;
         }
         if self.op == Op::Patch {
             write!(f, " n={}", self.index)?;

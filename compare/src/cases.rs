@@ -5,7 +5,7 @@ use crate::encode::{self, Geometry, SRID_FLAG, Style, Z_FLAG, put_u32};
 use crate::oracle::{Read, Side};
 use crate::random::Random;
 use crate::shapes::{self, Field};
-use original::functions::threed_metric::inside::{closest_of, farthest_of};
+use original::functions::threed_metric::inside::{closest_by_2_of, closest_of, farthest_of};
 
 #[derive(Debug, Clone)]
 pub struct Case {
@@ -16,7 +16,34 @@ pub struct Case {
 }
 
 const READING: &[Op] = &[Op::Distance, Op::LongestLine, Op::Interpolate, Op::Patch, Op::Sizes, Op::Read];
-const SECOND: &[Op] = &[Op::Distance, Op::ShortestLine];
+pub const SECOND: &[Op] = &[Op::Distance, Op::ShortestLine];
+
+/// By which rules the calls of a comparison are made.
+#[derive(Debug, Clone, Copy, PartialEq, Eq)]
+pub enum Rules {
+    /// By rule 1 alone, every operation: beside the original.
+    One,
+    /// Mostly by rule 2, now and then by 1 or by a number that is no rule; operations that take one.
+    Drawn,
+}
+
+impl Rules {
+    fn draw(self, random: &mut Random) -> u32 {
+        const NONE: [u32; 10] = [0, 3, 4, 255, 256, 258, 0x0001_0002, 0x8000_0002, u32::MAX - 1, u32::MAX];
+        match self {
+            Rules::One => 1,
+            Rules::Drawn => match random.below(40) {
+                0 => random.pick(&NONE),
+                1 | 2 => 1,
+                _ => 2,
+            },
+        }
+    }
+
+    fn allow(self, op: Op) -> bool {
+        self == Rules::One || op.takes_rule()
+    }
+}
 
 /// What is lent: enough, exactly enough, or too little by one or more in one place.
 fn lent(op: Op, a: &Side, b: &Side, random: &mut Random) -> Lent {
@@ -52,13 +79,17 @@ fn next(x: f64, by: i64) -> f64 {
 }
 
 /// A distance to test with: often the measured one or its neighbour.
-fn distance(op: Op, a: &Side, b: &Side, random: &mut Random) -> f64 {
+fn distance(op: Op, rule: u32, a: &Side, b: &Side, random: &mut Random) -> f64 {
     let odd = [0.0, -0.0, f64::NAN, f64::INFINITY, f64::NEG_INFINITY, -1.0, -5e-324, 1.0, 3.0, 5e-324];
     if random.chance(35) {
         return random.pick(&odd);
     }
     let (Ok(a), Ok(b)) = (&a.read, &b.read) else { return random.pick(&odd) };
-    let w = if op == Op::DWithin { closest_of(&a.parts, &b.parts, false) } else { farthest_of(&a.parts, &b.parts) };
+    let w = match op {
+        Op::DWithin if rule == 2 => closest_by_2_of(&a.parts, &b.parts, false),
+        Op::DWithin => closest_of(&a.parts, &b.parts, false),
+        _ => farthest_of(&a.parts, &b.parts),
+    };
     w.map_or(1.0, |w| next(w.d, random.range(-1, 1)))
 }
 
@@ -75,10 +106,11 @@ fn fraction(random: &mut Random) -> f64 {
 
 impl Case {
     /// The calls of the case, with numbers and lent memory drawn.
-    pub fn calls(&self, a: &Side, b: &Side, random: &mut Random) -> Vec<Call> {
+    pub fn calls(&self, a: &Side, b: &Side, rules: Rules, random: &mut Random) -> Vec<Call> {
         let call = |op: Op| {
+            let rule = rules.draw(random);
             let number = match op {
-                Op::DWithin | Op::DFullyWithin => distance(op, a, b, random),
+                Op::DWithin | Op::DFullyWithin => distance(op, rule, a, b, random),
                 Op::Interpolate => fraction(random),
                 _ => 0.0,
             };
@@ -87,9 +119,9 @@ impl Case {
                 _ => random.below(5) as u64,
             };
             let b_blob = if op.two_blobs() { self.b.clone() } else { Vec::new() };
-            Call { op, a: self.a.clone(), b: b_blob, number, index, lent: lent(op, a, b, random) }
+            Call { op, a: self.a.clone(), b: b_blob, number, rule, index, lent: lent(op, a, b, random) }
         };
-        self.ops.iter().copied().map(call).collect()
+        self.ops.iter().copied().filter(|op| rules.allow(*op)).map(call).collect()
     }
 }
 

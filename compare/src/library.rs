@@ -83,16 +83,20 @@ pub fn run(call: &Call, memory: &mut Memory) -> Returned {
     let [t1, t2] = &mut memory.numbers;
     let ((f1, f1l), (t1, t1l), (f2, f2l), (t2, t2l)) = (f1.lent(), t1.lent(), f2.lent(), t2.lent());
     let (o, ol) = memory.output.lent();
-    let x = call.number;
+    let (x, rule) = (call.number, call.rule);
     let reply = unsafe {
         match call.op {
-            Op::Distance => viskorrel_3d_distance(a, al, b, bl, f1, f1l, t1, t1l, f2, f2l, t2, t2l),
+            Op::Distance => viskorrel_3d_distance(a, al, b, bl, rule, f1, f1l, t1, t1l, f2, f2l, t2, t2l),
             Op::MaxDistance => viskorrel_3d_max_distance(a, al, b, bl, f1, f1l, t1, t1l, f2, f2l, t2, t2l),
-            Op::Intersects => viskorrel_3d_intersects(a, al, b, bl, f1, f1l, t1, t1l, f2, f2l, t2, t2l),
-            Op::DWithin => viskorrel_3d_dwithin(a, al, b, bl, x, f1, f1l, t1, t1l, f2, f2l, t2, t2l),
+            Op::Intersects => viskorrel_3d_intersects(a, al, b, bl, rule, f1, f1l, t1, t1l, f2, f2l, t2, t2l),
+            Op::DWithin => viskorrel_3d_dwithin(a, al, b, bl, x, rule, f1, f1l, t1, t1l, f2, f2l, t2, t2l),
             Op::DFullyWithin => viskorrel_3d_dfully_within(a, al, b, bl, x, f1, f1l, t1, t1l, f2, f2l, t2, t2l),
-            Op::ClosestPoint => viskorrel_3d_closest_point(a, al, b, bl, f1, f1l, t1, t1l, f2, f2l, t2, t2l, o, ol),
-            Op::ShortestLine => viskorrel_3d_shortest_line(a, al, b, bl, f1, f1l, t1, t1l, f2, f2l, t2, t2l, o, ol),
+            Op::ClosestPoint => {
+                viskorrel_3d_closest_point(a, al, b, bl, rule, f1, f1l, t1, t1l, f2, f2l, t2, t2l, o, ol)
+            }
+            Op::ShortestLine => {
+                viskorrel_3d_shortest_line(a, al, b, bl, rule, f1, f1l, t1, t1l, f2, f2l, t2, t2l, o, ol)
+            }
             Op::LongestLine => viskorrel_3d_longest_line(a, al, b, bl, f1, f1l, t1, t1l, f2, f2l, t2, t2l, o, ol),
             Op::Interpolate => viskorrel_3d_line_interpolate_point(a, al, x, f1, f1l, t1, t1l, o, ol),
             Op::Patch => return returned_pair(viskorrel_patch(a, al, call.index), Returned::Part),

@@ -1,11 +1,13 @@
 //! Feeds the original and our library the same calls and compares every result.
 //!
-//!     compare CALLS SEED [SAMPLES]           compares at least CALLS calls
+//!     compare CALLS SEED [SAMPLES]                  compares at least CALLS calls, by rule 1
+//!     compare rule2 CALLS SEED [SAMPLES]            the same by rule 2, beside its words over the original's parts
 //!     compare records FOLDER COUNT SEED [SAMPLES]   writes a list of the original's answers
 
 mod call;
 mod cases;
 mod check;
+mod crossings;
 mod encode;
 mod library;
 mod m;
@@ -20,7 +22,7 @@ use std::path::Path;
 use std::process::ExitCode;
 
 use call::{Call, Op};
-use cases::Case;
+use cases::{Case, Rules};
 use oracle::{Answer, Expected, Side, Source};
 use random::Random;
 use records::Records;
@@ -31,7 +33,8 @@ const SHOWN: usize = 3;
 #[derive(Default)]
 struct Report {
     calls: usize,
-    classes: BTreeMap<&'static str, usize>,
+    /// Calls, and those of them that a crossing decides.
+    classes: BTreeMap<&'static str, [usize; 2]>,
     outcomes: BTreeMap<(Op, String), usize>,
     refusals: BTreeMap<(u32, u32), usize>,
     sources: BTreeMap<Source, usize>,
@@ -86,7 +89,9 @@ impl Report {
                 self.held.count(&read.m);
             }
         }
-        *self.classes.entry(class).or_default() += 1;
+        let [calls, crossing] = self.classes.entry(class).or_default();
+        *calls += 1;
+        *crossing += usize::from(expected.source == Source::Rule2Crossing);
         let label = match expected.answer {
             Answer::Refused(number, side) => {
                 *self.refusals.entry((number, side)).or_default() += 1;
@@ -118,8 +123,9 @@ impl Report {
             println!("  {:24}{total:9}   {}", op.name(), parts.join(", "));
         }
         println!("calls for each class of case:");
-        for (class, n) in &self.classes {
-            println!("  {class:24}{n:9}");
+        for (class, [calls, crossing]) in &self.classes {
+            let decided = if *crossing == 0 { String::new() } else { format!("   by a crossing {crossing}") };
+            println!("  {class:24}{calls:9}{decided}");
         }
         println!("refusals, number.side:");
         let list: Vec<String> =
@@ -146,28 +152,33 @@ fn difference(call: &Call) -> Option<String> {
     check::check(call, &oracle::expected(call, &a, &b), [&a, &b], 1)
 }
 
-/// All fixed cases, then drawn ones for as long as `more` says.
-fn every_case(random: &mut Random, samples: &[Vec<u8>], run: &mut dyn FnMut(Case) -> bool) {
+/// All fixed cases, then drawn ones for as long as `run` says.
+fn every_case(rules: Rules, random: &mut Random, samples: &[Vec<u8>], run: &mut dyn FnMut(Case) -> bool) {
     let mut fixed = |case: Case| {
         run(case);
     };
     cases::fixtures(&mut fixed);
     cases::samples(samples, random, &mut fixed);
-    cases::short_blobs(&mut fixed);
-    cases::headers(&mut fixed);
-    cases::type_codes(random, &mut fixed);
+    if rules == Rules::One {
+        cases::short_blobs(&mut fixed);
+        cases::headers(&mut fixed);
+        cases::type_codes(random, &mut fixed);
+    } else {
+        crossings::fixtures(&mut fixed);
+    }
+    let drawn = if rules == Rules::One { cases::drawn } else { crossings::drawn };
     let mut more = true;
     while more {
-        cases::drawn(random, &mut |case| more = run(case));
+        drawn(random, &mut |case| more = run(case));
     }
 }
 
-fn compare(least: usize, seed: u64, samples: &[Vec<u8>]) -> bool {
+fn compare(rules: Rules, least: usize, seed: u64, samples: &[Vec<u8>]) -> bool {
     let mut report = Report::default();
     let numbers = &mut Random::new(seed ^ 0x5EED);
-    every_case(&mut Random::new(seed), samples, &mut |case| {
+    every_case(rules, &mut Random::new(seed), samples, &mut |case| {
         let sides = [&Side::new(&case.a), &Side::new(&case.b)];
-        for call in case.calls(sides[0], sides[1], numbers) {
+        for call in case.calls(sides[0], sides[1], rules, numbers) {
             let expected = oracle::expected(&call, sides[0], sides[1]);
             report.count(case.class, call.op, &expected, sides);
             if let Some(what) = check::check(&call, &expected, sides, report.calls) {
@@ -184,10 +195,10 @@ fn write_records(folder: &str, count: usize, seed: u64, samples: &[Vec<u8>]) -> 
     let mut records = Records::default();
     let numbers = &mut Random::new(seed ^ 0x5EED);
     let mut cases = 0;
-    every_case(&mut Random::new(seed), samples, &mut |case| {
+    every_case(Rules::One, &mut Random::new(seed), samples, &mut |case| {
         cases += 1;
         let sides = [&Side::new(&case.a), &Side::new(&case.b)];
-        for call in case.calls(sides[0], sides[1], numbers) {
+        for call in case.calls(sides[0], sides[1], Rules::One, numbers) {
             let expected = oracle::expected(&call, sides[0], sides[1]);
             records.offer(case.class, outcome(&expected.answer), &call, &expected, sides);
         }
@@ -216,15 +227,18 @@ fn main() -> ExitCode {
     let words: Vec<&str> = words.iter().map(String::as_str).collect();
     let number = |word: &str| word.parse::<u64>().expect("a whole number");
     let blobs = |path: &str| read_samples(path).expect("the samples can be read");
+    let given = |samples: &[&str]| samples.first().map_or(Vec::new(), |path| blobs(path));
     let good = match words[..] {
         ["records", folder, count, seed, ref samples @ ..] => {
-            let samples = samples.first().map_or(Vec::new(), |path| blobs(path));
+            let samples = given(samples);
             write_records(folder, number(count) as usize, number(seed), &samples).expect("the folder can be written");
             true
         }
-        [calls, seed] => compare(number(calls) as usize, number(seed), &[]),
-        [calls, seed, samples] => compare(number(calls) as usize, number(seed), &blobs(samples)),
-        _ => panic!("compare CALLS SEED [SAMPLES], or compare records FOLDER COUNT SEED [SAMPLES]"),
+        ["rule2", calls, seed, ref samples @ ..] => {
+            compare(Rules::Drawn, number(calls) as usize, number(seed), &given(samples))
+        }
+        [calls, seed, ref samples @ ..] => compare(Rules::One, number(calls) as usize, number(seed), &given(samples)),
+        _ => panic!("compare [rule2] CALLS SEED [SAMPLES], or compare records FOLDER COUNT SEED [SAMPLES]"),
     };
     if good { ExitCode::SUCCESS } else { ExitCode::FAILURE }
 }

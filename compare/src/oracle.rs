@@ -1,4 +1,4 @@
-//! What the original says of a call, in the words of document 01.
+//! What the original says of a call, in the words of document 01; by pair rule 2 what document 02 says, over the original.
 
 use std::cell::Cell;
 use std::panic::{AssertUnwindSafe, catch_unwind};
@@ -102,10 +102,25 @@ pub enum Source {
     StopsEarly,
     /// The original panics: the point is not compared.
     Panics,
+    /// 17: the original has no rules.
+    NoRule,
+    /// By rule 2, the same as the original's.
+    Rule2Same,
+    /// By rule 2, where a crossing makes it another than the original's.
+    Rule2Crossing,
 }
 
 impl Source {
-    pub const ALL: [Source; 5] = [Source::Original, Source::Falls2D, Source::Lent, Source::StopsEarly, Source::Panics];
+    pub const ALL: [Source; 8] = [
+        Source::Original,
+        Source::Falls2D,
+        Source::Lent,
+        Source::StopsEarly,
+        Source::Panics,
+        Source::NoRule,
+        Source::Rule2Same,
+        Source::Rule2Crossing,
+    ];
 
     pub fn name(self) -> &'static str {
         match self {
@@ -114,6 +129,9 @@ impl Source {
             Source::Lent => "15 and 16, from what the original read",
             Source::StopsEarly => "interpolation that stops early (point not compared)",
             Source::Panics => "interpolation that panics (point not compared)",
+            Source::NoRule => "17, a rule other than 1 and 2",
+            Source::Rule2Same => "by rule 2, the same as by rule 1",
+            Source::Rule2Crossing => "by rule 2, another than by rule 1",
         }
     }
 }
@@ -215,6 +233,41 @@ fn two_blobs(call: &Call, a: &Side, b: &Side) -> Answer {
     })
 }
 
+/// What document 02 says of an accepted call by rule 2: the closest pair is another, and the rest is as in the original.
+fn by_rule_2(call: &Call, a: &Side, b: &Side) -> Answer {
+    let (Ok(x), Ok(y)) = (&a.read, &b.read) else { unreachable!("accepted") };
+    let found = inside::closest_by_2_of(&x.parts, &y.parts, call.op == Op::Intersects);
+    match (call.op, found) {
+        (Op::DWithin, w) => Answer::Truth(w.is_some_and(|w| w.d <= call.number)),
+        (Op::Intersects, w) => Answer::Truth(w.is_some_and(|w| w.d == 0.0)),
+        (_, None) => Answer::Nothing,
+        (Op::Distance, Some(w)) => Answer::Number(w.d),
+        (Op::ClosestPoint, Some(w)) => Answer::Blob(one_nan(inside::point_blob(w.a, a.srid), 13)),
+        (Op::ShortestLine, Some(w)) => Answer::Blob(one_nan(inside::line_blob(w.a, w.b, a.srid), 17)),
+        _ => unreachable!("takes no rule"),
+    }
+}
+
+/// The answer by the call's rule, of one that the original gives by its own.
+fn by_the_rule(call: &Call, a: &Side, b: &Side, original: Answer) -> Expected {
+    if !call.op.takes_rule() || call.rule == 1 || matches!(original, Answer::Refused(..)) {
+        return Expected { answer: original, source: Source::Original };
+    }
+    let answer = by_rule_2(call, a, b);
+    let source = if same_answer(&answer, &original) { Source::Rule2Same } else { Source::Rule2Crossing };
+    Expected { answer, source }
+}
+
+/// All NaN being alike.
+fn same_answer(one: &Answer, other: &Answer) -> bool {
+    matches!((one, other), (Answer::Number(x), Answer::Number(y)) if x.is_nan() && y.is_nan()) || one == other
+}
+
+/// 17: after 1, and before anything of the blobs.
+fn has_no_rule(call: &Call) -> bool {
+    call.op.takes_rule() && !matches!(call.rule, 1 | 2) && !(call.op == Op::DWithin && call.number < 0.0)
+}
+
 /// Does an earlier segment equal the last in value?
 fn stops_early(parts: &Parts) -> bool {
     let Some((last, earlier)) = parts.segments.split_last() else { return false };
@@ -290,9 +343,10 @@ pub fn expected(call: &Call, a: &Side, b: &Side) -> Expected {
             let answer = a.read.as_ref().map_or_else(|e| refused(e, 1), lengths);
             Expected { answer, source: Source::Original }
         }
+        _ if has_no_rule(call) => Expected { answer: Answer::Refused(17, 0), source: Source::NoRule },
         _ => match falls_back(call, a, b) {
             Some(side) => Expected { answer: Answer::Refused(13, side), source: Source::Falls2D },
-            None => Expected { answer: two_blobs(call, a, b), source: Source::Original },
+            None => by_the_rule(call, a, b, two_blobs(call, a, b)),
         },
     };
     if matches!(said.answer, Answer::Refused(..)) {

@@ -8,6 +8,7 @@
 //!     u32 x 4   lent floats and numbers of side 1, then of side 2
 //!     u32 x 4   floats and numbers that the workspaces hold afterwards, in the same order (0 where refused)
 //!     u32 x 3   case (0 nothing or no, 1 answered or yes, 2 refused, 3 no surface), refusal's number, its side
+//!     u32       the pair rule, 1; 0 where the operation takes none
 //!     u64       the distance's or fraction's pattern, or which patch
 //!     u64 x 2   the answered number's pattern and 0; or a part's start and end; or the lengths to lend
 //!     bytes     a; b; expected output; floats held on side 1 as u64 patterns; its numbers as u32; the same of side 2
@@ -70,7 +71,7 @@ fn record(call: &Call, expected: &Expected, sides: [&Side; 2]) -> Vec<u8> {
             held.extend(read.numbers.iter().flat_map(|n| n.to_le_bytes()));
         }
     }
-    words.extend([case, number, side]);
+    words.extend([case, number, side, if call.op.takes_rule() { call.rule } else { 0 }]);
     let argument = if call.op == Op::Patch { call.index } else { pattern(call.number) };
     let mut out: Vec<u8> = words.iter().flat_map(|n| n.to_le_bytes()).collect();
     out.extend([argument, first, second].iter().flat_map(|n| n.to_le_bytes()));

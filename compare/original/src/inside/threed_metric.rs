@@ -1,6 +1,9 @@
 //! Declared after the end of `functions/threed_metric.rs`, so it sees that file's private items.
 
-use super::{closest, farthest, parts};
+#[path = "rule_2.rs"]
+mod rule_2;
+
+use super::{closest, farthest, line_z, parts, point_z};
 use crate::error::Result;
 use crate::{coords, geom};
 
@@ -37,6 +40,20 @@ pub fn parts_of(blob: &[u8]) -> Result<Parts> {
 
 pub fn closest_of(a: &Parts, b: &Parts, stop_at_zero: bool) -> Option<Witness> {
     closest(&hidden(a), &hidden(b), stop_at_zero).map(shown)
+}
+
+/// By pair rule 2, which is ours to define.
+pub fn closest_by_2_of(a: &Parts, b: &Parts, stop_at_zero: bool) -> Option<Witness> {
+    rule_2::closest_by_2(&hidden(a), &hidden(b), stop_at_zero).map(shown)
+}
+
+/// The blob of a point, and of a line, as the original writes it.
+pub fn point_blob(p: Point, srid: i32) -> Vec<u8> {
+    point_z(p, srid, "compare").expect("a point is written")
+}
+
+pub fn line_blob(a: Point, b: Point, srid: i32) -> Vec<u8> {
+    line_z(a, b, srid, "compare").expect("a line is written")
 }
 
 pub fn farthest_of(a: &Parts, b: &Parts) -> Option<Witness> {
