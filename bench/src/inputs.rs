@@ -24,12 +24,12 @@ fn write_list(pairs: &[Pair], file: &Path) -> io::Result<()> {
 }
 
 /// `workloads`: number of the list, operation, passes through the list in a round, calls in a round, most rounds, name.
-/// Workloads of several operations are left out. `tolerance`: that of within.
+/// Workloads of several operations, and those by rule 2, are left out. `tolerance`: that of within.
 pub fn write(workloads: &[Workload], folder: &Path) -> io::Result<()> {
     fs::create_dir_all(folder)?;
     let mut lists: Vec<&Rc<Vec<Pair>>> = Vec::new();
     let mut table = String::new();
-    for w in workloads.iter().filter(|w| w.ops.len() == 1) {
+    for w in workloads.iter().filter(|w| w.ops.len() == 1 && w.rule == 1) {
         let number = lists.iter().position(|list| Rc::ptr_eq(list, &w.pairs)).unwrap_or(lists.len());
         if number == lists.len() {
             lists.push(&w.pairs);

@@ -126,7 +126,12 @@ struct Family {
     /// Size, calls for each pair in a round, most rounds.
     sizes: &'static [(usize, usize, usize)],
     draw: fn(usize, &mut Random) -> (Geometry, Geometry),
+    /// Its name where it is measured by rule 2 too.
+    by_2: Option<&'static str>,
 }
+
+/// Of rule 2 on large pairs, whose sweep has no index of B, against the original by rule 1.
+const TARGET_BY_2: f64 = 4.0;
 
 const MOST: usize = usize::MAX;
 const NEAR: &[Op] = &[Op::Distance];
@@ -140,7 +145,7 @@ const fn family(
     sizes: &'static [(usize, usize, usize)],
     draw: fn(usize, &mut Random) -> (Geometry, Geometry),
 ) -> Family {
-    Family { name, ops, target: None, pairs: 1, sizes, draw }
+    Family { name, ops, target: None, pairs: 1, sizes, draw, by_2: None }
 }
 
 impl Family {
@@ -150,6 +155,10 @@ impl Family {
 
     const fn target(self, ratio: f64) -> Family {
         Family { target: Some(ratio), ..self }
+    }
+
+    const fn by_2(self, name: &'static str) -> Family {
+        Family { by_2: Some(name), ..self }
     }
 
     fn drawn(&self, size: usize) -> Vec<Pair> {
@@ -172,15 +181,18 @@ const FAMILIES: [Family; 10] = [
     family("TIN", NEAR, &[(250, 20, MOST), (1_000, 4, MOST), (4_000, 1, 5)], |n, random| {
         surfaces(n, 30.0, -30.0, 12.0, random)
     })
-    .target(1.0),
+    .target(1.0)
+    .by_2("rule 2 TIN"),
     family("TIN near", NEAR, &[(250, 4, MOST), (1_000, 1, MOST), (4_000, 1, 3)], |n, random| {
         surfaces(n, 0.0, 0.0, 1.0, random)
     })
-    .target(1.0),
+    .target(1.0)
+    .by_2("rule 2 TIN near"),
     family("TIN far", NEAR, &[(250, 20, MOST), (1_000, 4, MOST), (4_000, 1, 5)], |n, random| {
         surfaces(n, 2_000.0, 2_000.0, 12.0, random)
     })
-    .target(1.0),
+    .target(1.0)
+    .by_2("rule 2 TIN far"),
     family("lines", NEAR, &[(1_000, 4, MOST), (4_000, 1, 5)], routes),
     family("multipoints", BOTH, &[(2_000, 1, MOST)], |n, random| two_groups(n, random, dents)),
     family("NaN first", BOTH, &[(1_000, 4, MOST)], |n, random| two_groups(n, random, dents_after_empty)),
@@ -188,21 +200,33 @@ const FAMILIES: [Family; 10] = [
     family("equal roots", FAR, &[(1_000, 4, MOST)], |n, _| equal_roots(n, LESS, MORE)),
 ];
 
+/// The workloads of a family by a rule, under a name.
+fn of_family(family: &Family, name: &'static str, table: Table, pairs: &[Rc<Vec<Pair>>]) -> Vec<Workload> {
+    let (rule, target) = if table == Table::Rule2 { (2, Some(TARGET_BY_2)) } else { (1, family.target) };
+    let sized = family.sizes.iter().zip(pairs);
+    let each = sized.flat_map(|(&(size, times, rounds), pairs)| {
+        family.ops.iter().map(move |&op| Workload {
+            name: format!("{name} {} {size}", op.name()),
+            table,
+            ops: vec![op],
+            rule,
+            pairs: pairs.clone(),
+            times,
+            rounds,
+            target,
+            growth: Some((name, size)).filter(|_| family.sizes.len() > 1),
+        })
+    });
+    each.collect()
+}
+
 pub fn workloads() -> Vec<Workload> {
     let mut list = Vec::new();
     for family in &FAMILIES {
-        for &(size, times, rounds) in family.sizes {
-            let pairs = Rc::new(family.drawn(size));
-            list.extend(family.ops.iter().map(|&op| Workload {
-                name: format!("{} {} {size}", family.name, op.name()),
-                table: Table::Large,
-                ops: vec![op],
-                pairs: pairs.clone(),
-                times,
-                rounds,
-                target: family.target,
-                growth: Some((family.name, size)).filter(|_| family.sizes.len() > 1),
-            }));
+        let pairs: Vec<Rc<Vec<Pair>>> = family.sizes.iter().map(|sizes| Rc::new(family.drawn(sizes.0))).collect();
+        list.extend(of_family(family, family.name, Table::Large, &pairs));
+        if let Some(name) = family.by_2 {
+            list.extend(of_family(family, name, Table::Rule2, &pairs));
         }
     }
     list

@@ -6,7 +6,7 @@ use viskorrel_sys::*;
 
 use crate::measure::Answer;
 use crate::small::TOLERANCE;
-use crate::workload::{Op, Pair};
+use crate::workload::{Op, Pair, Workload};
 
 /// A side's workspace.
 struct Workspace {
@@ -29,16 +29,18 @@ impl Workspace {
 }
 
 pub struct Library {
+    rule: u32,
     first: Workspace,
     second: Workspace,
     output: [u8; LINE_BYTES],
 }
 
 impl Library {
-    pub fn new(pairs: &[Pair]) -> Library {
+    pub fn new(w: &Workload) -> Library {
         Library {
-            first: Workspace::of(pairs.iter().map(|p| &p.a)),
-            second: Workspace::of(pairs.iter().map(|p| &p.b)),
+            rule: w.rule,
+            first: Workspace::of(w.pairs.iter().map(|p| &p.a)),
+            second: Workspace::of(w.pairs.iter().map(|p| &p.b)),
             output: [0; LINE_BYTES],
         }
     }
@@ -48,12 +50,14 @@ impl Library {
         let ((a, al), (b, bl)) = ((pair.a.as_ptr(), pair.a.len()), (pair.b.as_ptr(), pair.b.len()));
         let (f1, f1l, f2, f2l) = lent(&mut self.first.floats, &mut self.second.floats);
         let (t1, t1l, t2, t2l) = lent(&mut self.first.table, &mut self.second.table);
-        let (o, ol, d) = (self.output.as_mut_ptr(), LINE_BYTES, TOLERANCE);
+        let (o, ol, d, r) = (self.output.as_mut_ptr(), LINE_BYTES, TOLERANCE, self.rule);
         unsafe {
             match op {
-                Op::Distance => viskorrel_3d_distance(a, al, b, bl, f1, f1l, t1, t1l, f2, f2l, t2, t2l),
-                Op::Within => viskorrel_3d_dwithin(a, al, b, bl, d, f1, f1l, t1, t1l, f2, f2l, t2, t2l),
-                Op::ShortestLine => viskorrel_3d_shortest_line(a, al, b, bl, f1, f1l, t1, t1l, f2, f2l, t2, t2l, o, ol),
+                Op::Distance => viskorrel_3d_distance(a, al, b, bl, r, f1, f1l, t1, t1l, f2, f2l, t2, t2l),
+                Op::Within => viskorrel_3d_dwithin(a, al, b, bl, d, r, f1, f1l, t1, t1l, f2, f2l, t2, t2l),
+                Op::ShortestLine => {
+                    viskorrel_3d_shortest_line(a, al, b, bl, r, f1, f1l, t1, t1l, f2, f2l, t2, t2l, o, ol)
+                }
                 Op::LongestLine => viskorrel_3d_longest_line(a, al, b, bl, f1, f1l, t1, t1l, f2, f2l, t2, t2l, o, ol),
             }
         }

@@ -99,14 +99,19 @@ pub struct Run<'a> {
 }
 
 impl<'a> Run<'a> {
-    /// The first round keeps the answers of both sides, which are compared: an error where they differ.
+    /// The first round keeps the answers of both sides, which are compared: an error where they differ. By rule 2 ours are
+    /// held to that rule's, which are not timed.
     pub fn new(w: &'a Workload) -> Result<Run<'a>, String> {
-        let mut library = Library::new(&w.pairs);
+        let mut library = Library::new(w);
         let (mut theirs, mut ours) = (Vec::new(), Vec::new());
         let first = [
             round(w, |op, pair| theirs.push(original_side::answer(op, pair))),
             round(w, |op, pair| ours.push(library.answer(op, pair))),
         ];
+        if w.rule == 2 {
+            let by_2 = |pair| w.ops.iter().map(move |op| original_side::answer_by_2(*op, pair));
+            theirs = w.pairs.iter().flat_map(by_2).collect();
+        }
         compare(w, &theirs, &ours)?;
         Ok(Run { workload: w, library, rounds: vec![first] })
     }
@@ -160,7 +165,7 @@ fn compare(w: &Workload, theirs: &[Answer], ours: &[Answer]) -> Result<(), Strin
 
 /// Our side alone: nanoseconds of a round, at best.
 pub fn ours_alone(w: &Workload, rounds: usize) -> f64 {
-    let mut library = Library::new(&w.pairs);
+    let mut library = Library::new(w);
     let mut done: Vec<[u64; 2]> = Vec::new();
     while done.len() < w.rounds && !enough(&done, rounds) {
         done.push([round(w, |op, pair| library.call(op, pair)); 2]);

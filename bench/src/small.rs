@@ -12,6 +12,9 @@ const COUNT: usize = 40_000;
 const SEED: u64 = 1;
 const TARGET: f64 = 0.7;
 
+/// Of rule 2, which tries a crossing first: no slower than the original is without.
+const TARGET_BY_2: f64 = 1.0;
+
 /// About half of the pairs are within it, in metres.
 pub const TOLERANCE: f64 = 4.0;
 
@@ -108,8 +111,12 @@ fn pairs<'a>(drawn: impl Iterator<Item = &'a (usize, Geometry, Geometry)>) -> Rc
 }
 
 fn workload(name: String, table: Table, ops: Vec<Op>, pairs: &Rc<Vec<Pair>>) -> Workload {
-    let target = Some(TARGET).filter(|_| table != Table::Kinds);
-    Workload { name, table, ops, pairs: pairs.clone(), times: 1, rounds: usize::MAX, target, growth: None }
+    let (rule, target) = match table {
+        Table::Rule2 => (2, Some(TARGET_BY_2)),
+        Table::Kinds => (1, None),
+        _ => (1, Some(TARGET)),
+    };
+    Workload { name, table, ops, rule, pairs: pairs.clone(), times: 1, rounds: usize::MAX, target, growth: None }
 }
 
 pub fn workloads() -> Vec<Workload> {
@@ -124,6 +131,11 @@ pub fn workloads() -> Vec<Workload> {
         let some = pairs(drawn.iter().filter(|d| d.0 == i));
         for op in Op::ALL {
             list.push(workload(format!("{} {}", kind.0, op.name()), Table::Kinds, vec![op], &some));
+        }
+        if matches!((kind.1, kind.2), (_, Shape::Face) | (Shape::Face, _)) {
+            for op in Op::BY_RULE {
+                list.push(workload(format!("rule 2 {} {}", kind.0, op.name()), Table::Rule2, vec![op], &some));
+            }
         }
     }
     list

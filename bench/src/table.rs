@@ -23,6 +23,7 @@ fn heading(table: Table) -> &'static str {
         Table::Job => "The whole job: each small pair within, distance, shortest line and longest line in turn",
         Table::Kinds => "Small pairs by kind",
         Table::Large => "Large pairs",
+        Table::Rule2 => "Ours by pair rule 2, the original by rule 1",
     }
 }
 

@@ -14,6 +14,8 @@ pub enum Op {
 
 impl Op {
     pub const ALL: [Op; 4] = [Op::Within, Op::Distance, Op::ShortestLine, Op::LongestLine];
+    /// Those that take a rule.
+    pub const BY_RULE: [Op; 3] = [Op::Within, Op::Distance, Op::ShortestLine];
 
     pub fn name(self) -> &'static str {
         match self {
@@ -39,10 +41,11 @@ pub enum Table {
     Job,
     Kinds,
     Large,
+    Rule2,
 }
 
 impl Table {
-    pub const ALL: [Table; 4] = [Table::Small, Table::Job, Table::Kinds, Table::Large];
+    pub const ALL: [Table; 5] = [Table::Small, Table::Job, Table::Kinds, Table::Large, Table::Rule2];
 }
 
 #[derive(Debug)]
@@ -51,6 +54,8 @@ pub struct Workload {
     pub table: Table,
     /// Every pair goes through these in turn.
     pub ops: Vec<Op>,
+    /// The pair rule of our side; the original has rule 1 alone.
+    pub rule: u32,
     pub pairs: Rc<Vec<Pair>>,
     /// How often a round goes through all pairs.
     pub times: usize,
