@@ -48,8 +48,8 @@ install: all
 	    "$(DESTDIR)$(SHAREDIR)/python/viskorrel" "$(DESTDIR)$(DOCDIR)"
 	$(INSTALL) -m 644 "$(ARCHIVE)" "$(DESTDIR)$(LIBDIR)/libviskorrel.a"
 	$(INSTALL) -m 644 "$(SHARED)" "$(DESTDIR)$(LIBDIR)/libviskorrel.so.$(VERSION)"
-	ln -sf libviskorrel.so.$(VERSION) "$(DESTDIR)$(LIBDIR)/libviskorrel.so.1"
-	ln -sf libviskorrel.so.1 "$(DESTDIR)$(LIBDIR)/libviskorrel.so"
+	ln -sf libviskorrel.so.$(VERSION) "$(DESTDIR)$(LIBDIR)/libviskorrel.so.2"
+	ln -sf libviskorrel.so.2 "$(DESTDIR)$(LIBDIR)/libviskorrel.so"
 	$(INSTALL) -m 644 $(EXTENSION) "$(DESTDIR)$(LIBDIR)/viskorrel_sqlite.so"
 	$(INSTALL) -m 644 include/*.h "$(DESTDIR)$(INCLUDEDIR)"
 	sed -e 's|@PREFIX@|$(PREFIX)|' -e 's|@LIBDIR@|$(LIBDIR)|' -e 's|@INCLUDEDIR@|$(INCLUDEDIR)|' -e 's|@VERSION@|$(VERSION)|' \
