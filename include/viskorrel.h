@@ -55,7 +55,7 @@
 #include <stddef.h>
 #include <stdint.h>
 
-#define VISKORREL_VERSION "0.4.0"
+#define VISKORREL_VERSION "0.5.0"
 
 #ifdef __cplusplus
 extern "C" {

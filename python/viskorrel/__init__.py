@@ -16,7 +16,7 @@ from ._operations import (
 from ._refusal import Refusal
 from ._root import RootAndDigits, root_digits
 
-__version__ = "0.4.0"
+__version__ = "0.5.0"
 
 __all__ = [
     "Blobs", "LibraryMissing", "Nearest", "NoSurface", "Refusal", "RootAndDigits", "batch", "closest_point", "dfully_within", "distance", "dwithin",
