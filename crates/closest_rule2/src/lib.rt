@@ -1,7 +1,7 @@
 // The closest sweep by pair rule 2 (document 02, 3/13), in its plain form: two workspaces, and no index of either.
 //
-// 1. Where neither side has a face nothing is crossed, and rule 1's sweep, which is the faster one, gives the answer (`closest`).
-// 2. Else side 2 is looked through once for the box of all its items (`from_all`). Without an item there is no pair.
+// 1. Where neither side has a face (`any_face`) nothing is crossed, and callers take rule 1's sweep, which is the faster one.
+// 2. Side 2 is looked through once for the box of all its items (`from_all`). Without an item there is no pair.
 // 3. Each item of side 1 (`from_classes`, `from_class`, `from_run`) meets each item of side 2 (`with_all`, `with_class`, `with_run`). Both go
 //    class by class, points, segments, triangles, in a class run by run, in a run item by item.
 // 4. An item of side 1 is skipped against the box of all of side 2 (`visit`), and a pair by its two boxes (`with_run`): what is skipped is not
@@ -261,8 +261,8 @@ fn has_face(table: &[u32]) -> bool
     false
 }
 
-// Whether a side has a face.
-fn any_face(table1: &[u32], table2: &[u32]) -> bool
+// Whether a side has a face. Where none has, rule 2 finds what rule 1 does.
+pub fn any_face(table1: &[u32], table2: &[u32]) -> bool
     ensures { λ r. ⌜ r ≡ (hasFace (now (table1 .entry)) || hasFace (now (table2 .entry))) ⌝ }
 {
     if has_face(table1) {
@@ -283,8 +283,5 @@ pub fn closest(
     requires { ⌜ Laid (now table2) (now floats2) ⌝ }
     ensures { λ r. ⌜ r ≡ answerOf (closestByRule2 (itemsOf (storedRuns (now (table1 .entry)) (now (floats1 .entry)))) (itemsOf (storedRuns (now (table2 .entry)) (now (floats2 .entry))))) ⌝ }
 {
-    if any_face(table1, table2) {
-        return extremes::answered(from_all(stop_at_zero, floats1, table1, floats2, table2));
-    }
-    closest::closest(floats1, table1, floats2, table2, stop_at_zero)
+    extremes::answered(from_all(stop_at_zero, floats1, table1, floats2, table2))
 }

@@ -9,7 +9,7 @@ use primitives::Point;
 use primitives::Witness;
 ghost use mathlib.Core.Path.{_≡_};
 ghost use Rattle.extremes.specs.InnerBest.{bestOf, Sound, Keeps};
-ghost use Rattle.measures.specs.Measures.{normalOf};
+ghost use Rattle.measures.specs.Measures.{normalOf, innerSide, insideTriangle};
 ghost use Rattle.measures.specs.InnerOffers.{offeredAll};
 ghost use Rattle.items.specs.Items.{segment, triangle};
 ghost use Rattle.items.specs.Inner.{itemOf};
@@ -20,6 +20,35 @@ ghost use Rattle.crossings.specs.InnerCrossings.{offeredBy, firstOnly, c
 pub enum Crossing {
     At(Point),
     Nothing,
+}
+
+// The normal of the triangle a b c, and `inner_side` and `inside_triangle` below: as `measures` has them. Called from here too, those would be
+// calls in the sweep by rule 1, where the compiler puts them in line.
+fn normal(a: Point, b: Point, c: Point) -> Point
+    ensures { λ r. ⌜ r ≡ normalOf a b c ⌝ }
+{
+    primitives::cross(primitives::difference(b, a), primitives::difference(c, a))
+}
+
+// Whether x lies on the inner side of the edge from u to v, or on it.
+fn inner_side(u: Point, v: Point, x: Point, n: Point) -> bool
+    ensures { λ r. ⌜ r ≡ innerSide u v x n ⌝ }
+{
+    let edge = primitives::difference(v, u);
+    let to_x = primitives::difference(x, u);
+    primitives::dot(primitives::cross(edge, to_x), n) >= 0.0
+}
+
+// Whether x lies inside the triangle a b c with the normal n.
+fn inside_triangle(a: Point, b: Point, c: Point, x: Point, n: Point) -> bool
+    ensures { λ r. ⌜ r ≡ insideTriangle a b c x n ⌝ }
+{
+    if inner_side(a, b, x, n) {
+        if inner_side(b, c, x, n) {
+            return inner_side(c, a, x, n);
+        }
+    }
+    false
 }
 
 // On which side of the plane through a with the normal n the point p lies: above 0 where n points, below 0 on the other.
@@ -51,7 +80,7 @@ fn counts(t: Triangle, n: Point, x: Point) -> bool
     let b = t.b;
     let c = t.c;
     if primitives::dot(n, n) > 0.0 {
-        if measures::inside_triangle(a, b, c, x, n) {
+        if inside_triangle(a, b, c, x, n) {
             let w = Witness::between(x, x);
             return w.d == 0.0;
         }
@@ -81,7 +110,7 @@ pub fn segment_through(s: Point, e: Point, t: Triangle) -> Crossing
     let a = t.a;
     let b = t.b;
     let c = t.c;
-    let n = measures::normal(a, b, c);
+    let n = normal(a, b, c);
     segment_by_sides(s, e, side(s, a, n), side(e, a, n), t, n)
 }
 
@@ -95,7 +124,7 @@ pub fn edges_through(t: Triangle, u: Triangle) -> Crossing
     let d = u.a;
     let e = u.b;
     let f = u.c;
-    let n = measures::normal(d, e, f);
+    let n = normal(d, e, f);
     let at_a = side(a, d, n);
     let at_b = side(b, d, n);
     let first = segment_by_sides(a, b, at_a, at_b, u, n);

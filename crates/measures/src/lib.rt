@@ -161,7 +161,7 @@ pub fn seg_seg(p1: Point, q1: Point, p2: Point, q2: Point) -> UnrootedWitness
 }
 
 // The normal of the triangle a b c.
-pub fn normal(a: Point, b: Point, c: Point) -> Point
+fn normal(a: Point, b: Point, c: Point) -> Point
     ensures { λ r. ⌜ r ≡ normalOf a b c ⌝ }
 {
     primitives::cross(primitives::difference(b, a), primitives::difference(c, a))
@@ -189,7 +189,7 @@ fn inner_side(u: Point, v: Point, foot: Point, n: Point) -> bool
 }
 
 // Whether the foot of a perpendicular lies inside the triangle a b c with the normal n.
-pub fn inside_triangle(a: Point, b: Point, c: Point, foot: Point, n: Point) -> bool
+fn inside_triangle(a: Point, b: Point, c: Point, foot: Point, n: Point) -> bool
     ensures { λ r. ⌜ r ≡ insideTriangle a b c foot n ⌝ }
 {
     if inner_side(a, b, foot, n) {

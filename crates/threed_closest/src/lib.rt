@@ -25,7 +25,8 @@ ghost use Rattle.outcomes.specs.Inner.{PairSwept};
 ghost use Rattle.outcomes.specs.ThirdProperty.{ShortestOfPoints};
 ghost use Rattle.reading.specs.Inner.{firstByRule};
 
-// The closest pair of what two workspaces hold, by a rule.
+// The closest pair of what two workspaces hold, by a rule: where no side has a face rule 2 is rule 1, whose sweep is the
+// faster one. It is called from this place alone, so that the compiler puts it here.
 fn sweep(
     rule: u32,
     floats1: &[f64],
@@ -41,7 +42,9 @@ fn sweep(
         (itemsOf (storedRuns (now (table2 .entry)) (now (floats2 .entry))))) ⌝ }
 {
     if rule == 2 {
-        return closest_rule2::closest(floats1, table1, floats2, table2, stop_at_zero);
+        if closest_rule2::any_face(table1, table2) {
+            return closest_rule2::closest(floats1, table1, floats2, table2, stop_at_zero);
+        }
     }
     closest::closest(floats1, table1, floats2, table2, stop_at_zero)
 }
