@@ -66,8 +66,8 @@ typedef struct viskorrel_answers {
 } viskorrel_answers;
 
 /*
- * One operation on many elements, all by one rule, VISKORREL_RULE_1 or VISKORREL_RULE_2; an operation that takes no rule does not look at it. A
- * refused element has its outcome, number and side, as the operation alone gives them, and the batch goes on.
+ * One operation on many elements, all by one rule, VISKORREL_RULE_1 or VISKORREL_RULE_2; an operation that takes no rule does not look at
+ * it. A refused element has its outcome, number and side, as the operation alone gives them, and the batch goes on.
  * VISKORREL_LINE_INTERPOLATE_POINT looks at a only, and b may be null.
  */
 int viskorrel_batch(

@@ -222,7 +222,8 @@ struct boxes {
 
 /* Element k: goes through b in order. 0 if there is no memory. */
 static int nearest(
-    struct measurer *m, const viskorrel_blobs *b, uint32_t rule, const struct boxes *boxes, size_t k, const viskorrel_nearest_answers *answers)
+    struct measurer *m, const viskorrel_blobs *b, uint32_t rule, const struct boxes *boxes, size_t k,
+    const viskorrel_nearest_answers *answers)
 {
     const struct question distance = {VISKORREL_DISTANCE, 0, rule};
     viskorrel_reply reply = {VISKORREL_NOTHING, 0, 0, 0};

@@ -99,8 +99,8 @@ pub struct Run<'a> {
 }
 
 impl<'a> Run<'a> {
-    /// The first round keeps the answers of both sides, which are compared: an error where they differ. By rule 2 ours are
-    /// held to that rule's, which are not timed.
+    /// The first round keeps the answers of both sides, which are compared: an error where they differ. By rule 2 ours
+    /// are held to that rule's, which are not timed.
     pub fn new(w: &'a Workload) -> Result<Run<'a>, String> {
         let mut library = Library::new(w);
         let (mut theirs, mut ours) = (Vec::new(), Vec::new());

@@ -101,7 +101,7 @@ fn direction(t: [P; 3], random: &mut Random) -> P {
     }
 }
 
-/// The two ends of a rod through a place of the triangle's plane; one may stand in it, or on the same side as the other.
+/// The two ends of a rod through a place of the triangle's plane; one may stand in it, or on the other's side of it.
 fn rod(t: [P; 3], random: &mut Random) -> [P; 2] {
     const REACH: [f64; 12] = [1.0, 1.0, 1.0, 0.5, 2.0, 3.0, 0.1, 0.0, 1e-9, 1e9, 9.313225746154785e-10, -1.0];
     let (at, along) = (place(t, random), direction(t, random));

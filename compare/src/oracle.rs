@@ -1,4 +1,4 @@
-//! What the original says of a call, in the words of document 01; by pair rule 2 what document 02 says, over the original.
+//! What the original says of a call, in the words of document 01; by pair rule 2 what document 02 says.
 
 use std::cell::Cell;
 use std::panic::{AssertUnwindSafe, catch_unwind};

@@ -100,4 +100,5 @@ def same_lists(t):
     t.check("the same list by rule 2 without the box test", lists[0] == lists[1] and any("NEW" in line for line in lists[0]), str(lists[0][:12]))
     cross = filled(t, [upright(10.0 * n, 0, 0) for n in range(20)], [plate(10.0 * n, 0, 0) for n in range(20)])
     told_of = [run(cross, "--rule", rule).stdout for rule in ("1", "2")]
-    t.check("twenty rods through twenty plates", "Whole list: 20 dents, 20 new" in told_of[0] and "Whole list: 20 dents, 0 new" in told_of[1], "".join(told_of))
+    t.check("twenty rods through twenty plates", "Whole list: 20 dents, 20 new" in told_of[0] and "Whole list: 20 dents, 0 new" in told_of[1],
+            "".join(told_of))

@@ -2,7 +2,7 @@
 //!
 //! Any bytes may be passed. A call gives an answer, or a [`Refusal`] from a fixed table. Names and shapes are those of
 //! [kenro](https://github.com/reearth/kenro); where the two answer differently, `docs/DIFFERENCES.md` says so. Beside each of the five
-//! functions by the least distance stands one that ends in `_by` and takes a [`Rule`]: by rule 2 a rod that passes through a plate touches it.
+//! functions by the least distance stands one that ends in `_by` and takes a [`Rule`]: by rule 2 a rod through a plate touches it.
 //!
 //! The functions here keep one [`Measurer`] for each thread, and so as much memory as the thread's largest blobs took. Hold a `Measurer`
 //! of your own to say when that memory goes.

@@ -1,6 +1,6 @@
-//! Pair rule 2, which the original does not have, from the words of document 02, 3/13 (docs/SCOPE.md has them), over the
-//! original's own vectors, pair measures, boxes and skip. It shares nothing with our library, so that the two are the
-//! same definition in other hands.
+//! Pair rule 2, which the original does not have, from the words of document 02, 3/13 (docs/SCOPE.md has them), over
+//! the original's own vectors, pair measures, boxes and skip. It shares nothing with our library, so that the definition
+//! is there twice.
 
 use super::super::{
     Aabb, Boxed, Parts, Witness, closest, cross, dot, lerp, no_closer, pt_seg, pt_tri, seg_seg, sub, tri_tri,
@@ -54,16 +54,16 @@ fn crossing((start, end): Segment, t: Triangle) -> Option<Witness> {
     (dot(n, n) > 0.0 && is_inside(p, t, n) && offered.d == 0.0).then_some(offered)
 }
 
-/// "`tri_tri`, before its edge pairs, tries each edge of one against the other, the first triangle's edges first, each in
-/// `tri_tri`'s order": a crossing's distance is 0, and no later candidate is less.
+/// "`tri_tri`, before its edge pairs, tries each edge of one against the other, the first triangle's edges first, each
+/// in `tri_tri`'s order": a crossing's distance is 0, and no later candidate is less.
 fn tri_tri_by_2(t1: Triangle, t2: Triangle) -> Witness {
     let first = edges(t1).into_iter().find_map(|edge| crossing(edge, t2));
     let second = || edges(t2).into_iter().find_map(|edge| crossing(edge, t1));
     first.or_else(second).unwrap_or_else(|| tri_tri(t1, t2))
 }
 
-/// A segment and a triangle: "In rule 2 a segment against a triangle first tries a crossing"; then as `closest_inner` has
-/// it, the triangle being of the first side or of the second.
+/// A segment and a triangle: "In rule 2 a segment against a triangle first tries a crossing"; then as `closest_inner`
+/// has it, the triangle being of the first side or of the second.
 fn seg_tri(s: Segment, t: Triangle, rule: Rule, triangle_first: bool) -> Vec<Witness> {
     let turned = |w: Witness| if triangle_first { w.flipped() } else { w };
     let ends = [s.0, s.1].map(|p| turned(pt_tri(p, t.0, t.1, t.2)));
