@@ -17,8 +17,8 @@ use Rattle.coords.specs.declared.Counts.{Counts}
 use Rattle.coords.specs.declared.Counts.the-variants as counts
 use Rattle.coords.proofs.Refusals.{refused-is-given, accepted-gives-none}
 use Rattle.coords.proofs.Counted.{counted-refused, counted-accepted}
-use Rattle.blob.specs.Blob.{walkOfBlob}
-use Rattle.blob.specs.Inner.{refusalOf, topHeaderOf, headerBy, walkEnd, operandOf, operandBy, roomBy}
+use Rattle.blob.specs.Blob.{walkOfBlob, walkEnd}
+use Rattle.blob.specs.Inner.{refusalOf, topHeaderOf, headerBy, operandOf, operandBy, roomBy}
 use Rattle.blob.specs.declared.TopHeader.{TopHeader}
 use Rattle.blob.specs.declared.HeaderRead.{HeaderRead}
 use Rattle.blob.specs.declared.HeaderRead.the-variants as header-read

@@ -8,7 +8,7 @@ use lib.Ieee.{Float}
 use Rattle.refusals.specs.Checks.{Check, check, firstOf}
 use Rattle.refusals.specs.declared.Refusal.{Refusal}
 use Rattle.gpb.specs.Header.{geometryStart, sridOf, headerChecks}
-use Rattle.coords.specs.Walk.{Coordinate, Geometry, Parsed, walkOf, allLevels}
+use Rattle.coords.specs.Walk.{Coordinate, Geometry, Parsed, ok, refused, walkOf, allLevels}
 use Rattle.coords.specs.Parts.{Run, walkedRuns, coordinateCount}
 use Rattle.coords.specs.Refusals.{walkChecks}
 use Rattle.workspace.specs.Workspace.{floatsNeeded, numbersNeeded, tooSmall, floatsWith, tableWith}
@@ -20,6 +20,11 @@ use Rattle.blob.specs.declared.BlobRead.the-variants as blob-read
 -- the walk of a blob's geometry
 abbrev pub walkOfBlob : List ℕ → Parsed Geometry
 walkOfBlob s = walkOf allLevels s (geometryStart s)
+
+-- the position after the geometry that was read
+unfoldable pub walkEnd : Parsed Geometry → ℕ
+walkEnd (ok g end) = end
+walkEnd (refused k) = 0
 
 -- the runs of a blob
 abbrev pub runsOfBlob : List ℕ → List (Run Coordinate)

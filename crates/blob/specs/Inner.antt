@@ -6,9 +6,8 @@ use mathlib.Core.Option.{Option, none, some}
 use lib.ListN.{length}
 use Rattle.refusals.specs.declared.Refusal.{Refusal}
 use Rattle.gpb.specs.Header.{geometryStart, sridOf}
-use Rattle.coords.specs.Walk.{Geometry, Parsed, ok, refused}
 use Rattle.coords.specs.Parts.{coordinateCount, otherCount}
-use Rattle.blob.specs.Blob.{walkOfBlob, runsOfBlob}
+use Rattle.blob.specs.Blob.{walkOfBlob, walkEnd, runsOfBlob}
 use Rattle.blob.specs.declared.TopHeader.{TopHeader}
 use Rattle.blob.specs.declared.HeaderRead.{HeaderRead}
 use Rattle.blob.specs.declared.HeaderRead.the-variants as header-read
@@ -33,11 +32,6 @@ headerBy (some k) side s = header-read.Refused (refusalOf side k)
 headerBy none side s = header-read.Found (topHeaderOf s)
 
 -- ---- the walk
-
--- the position after the geometry that was read
-unfoldable pub walkEnd : Parsed Geometry → ℕ
-walkEnd (ok g end) = end
-walkEnd (refused k) = 0
 
 abbrev pub operandOf : List ℕ → Operand
 operandOf s =

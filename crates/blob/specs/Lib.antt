@@ -1,3 +1,4 @@
 pub mod Blob
 pub mod Inner
 pub mod Ignored
+pub mod Written

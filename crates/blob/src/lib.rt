@@ -60,6 +60,12 @@ pub enum Sizes {
     Refused(Refusal),
 }
 
+// The bytes of a blob that was written into lent output, or a refusal.
+pub enum WrittenSize {
+    Bytes(usize),
+    Refused(Refusal),
+}
+
 // Coordinates, runs and the SRID's bits of a blob that was read, or its refusal.
 pub enum BlobRead {
     Read {

@@ -12,21 +12,7 @@ use Rattle.coords.specs.declared.WkbHeader.{WkbHeader}
 use Rattle.coords.specs.declared.ParsedHeader.{ParsedHeader}
 use Rattle.coords.specs.declared.ParsedHeader.the-variants as header
 use Rattle.coords.specs.Walk.{Geometry, geometry, Content, point, line, rings, members, Members, noMembers, oneMore, Parsed, ok, refused, mapParsed, consParsed, andThen, times, listAt, pointAt, lineAt, ringsAt, membersAt, GeometryClass, pointClass, lineClass, polygonClass, collectionClass, unknownClass, geometryClassOf, contentOf, headerAt, geometryFrom, walkOf}
-
-unfoldable mutual
-  -- the deepest level below a geometry, itself at level 0
-  pub deepestLevel : Geometry → ℕ
-  deepestLevel (geometry kind z m content) = contentLevel content
-
-  pub contentLevel : Content → ℕ
-  contentLevel (point c) = 0
-  contentLevel (line cs) = 0
-  contentLevel (rings rs) = 0
-  contentLevel (members gs) = membersLevel gs
-
-  pub membersLevel : Members → ℕ
-  membersLevel noMembers = 0
-  membersLevel (oneMore g gs) = max (suc (deepestLevel g)) (membersLevel gs)
+use Rattle.coords.specs.Levels.{deepestLevel, contentLevel, membersLevel}
 
 -- what r says once `level` of what was read is at most n; w reads the same then
 Reads : {A : Type 0} → (A → ℕ) → ℕ → Parsed A → Parsed A → Type 0

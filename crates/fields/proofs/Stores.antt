@@ -3,9 +3,10 @@ use mathlib.Core.Path.{_≡_, sym, ap, _∙_}
 use mathlib.Core.List.{List, [], _∷_, _++_}
 use Prim.Native.Nat.{ℕ, suc, _+_, _<_, _≤_}
 use native.Mathlib.Nat.{zero-add, add-zero}
+use native.Mathlib.Numerals.{add-one}
 use native.Mathlib.Omega.{arith}
 use lib.ListN.{length, getD, set, take, drop, length-append, List·getD-append}
-use lib.Seq.{sets, sets-eq, length-take-le, getD-append-add}
+use lib.Seq.{sets, sets-eq, length-take-le, getD-append-add, drop-cons}
 
 module _ {A : Type 0} where
   -- two rows, the second behind the first, are one
@@ -14,6 +15,14 @@ module _ {A : Type 0} where
   sets-append (x ∷ xs) ys l i =
       let e : suc i + length xs ≡ i + suc (length xs) = omega arith in
       sets-append xs ys (set l i x) (suc i) ∙ ap (λ (k : ℕ). sets (sets (set l i x) (suc i) xs) k ys) e
+
+  -- a row from i on begins with its element i
+  pub sets-turn : (s l : List A) (at i : ℕ) (z : A) → i < length s → sets l (at + i) (drop i s) ≡ sets (set l (at + i) (getD s i z)) (at + (i + 1)) (drop (i + 1) s)
+  sets-turn s l at i z h =
+      let e : suc (at + i) ≡ at + (i + 1) = omega arith in
+      ap (sets l (at + i)) (drop-cons s i z h)
+      ∙ ap (λ (k : ℕ). sets (set l (at + i) (getD s i z)) k (drop (suc i) s)) e
+      ∙ ap (λ (k : ℕ). sets (set l (at + i) (getD s i z)) (at + (i + 1)) (drop k s)) (sym (add-one i))
 
   -- a row from the start on stands before what is left
   pub sets-front : (n : ℕ) (xs l : List A) → length xs ≡ n → n ≤ length l → sets l 0 xs ≡ xs ++ drop n l

@@ -4,7 +4,7 @@ use mathlib.Core.List.{List, [], _∷_, _++_}
 use lib.Ieee.{Float, binary64, toBits}
 use Rattle.fields.specs.Fields.{bytesOfU32, bytesOfU64}
 
--- GeoPackage: 47 50, version 0, flags 01 (little-endian, no envelope), SRID; WKB: byte order 01, type
+-- GeoPackage: 47 50, version 0, flags 01 (little-endian, no envelope, not empty), SRID; WKB: byte order 01, type
 unfoldable pub headerBytes : ℕ → ℕ → List ℕ
 headerBytes srid code = (0x47 ∷ 0x50 ∷ 0x00 ∷ 0x01 ∷ []) ++ bytesOfU32 srid ++ (0x01 ∷ []) ++ bytesOfU32 code
 
