@@ -45,9 +45,11 @@
  *   15  the floats or the table of that side are too short
  *   16  the output is too short, even where the answer is nothing
  *   17  operations by the least distance: the rule is a number other than 1 or 2
+ *   18  join: the SRIDs of the two blobs differ
+ *   19  join: a geometry would stand more than 32 levels deep
  *
  * Where several hold, the first of this order is given: 1, 2; 17; side 1's header (3 to 8, 9 for its first five bytes, 10, then 13), side 2's;
- * the geometries of side 1, of side 2 (of each 12, 9, 10, 9 for the SRID, 11, then its content); 14; 15 of side 1, of side 2; 16.
+ * the geometries of side 1, of side 2 (of each 12, 9, 10, 9 for the SRID, 11, then its content); 14; 15 of side 1, of side 2; 18; 19; 16.
  */
 #ifndef VISKORREL_H
 #define VISKORREL_H
@@ -55,7 +57,7 @@
 #include <stddef.h>
 #include <stdint.h>
 
-#define VISKORREL_VERSION "0.5.0"
+#define VISKORREL_VERSION "0.6.0"
 
 #ifdef __cplusplus
 extern "C" {
@@ -72,7 +74,7 @@ enum viskorrel_outcome {
 /* What an operation returns. A field is 0 where the outcome gives it no meaning. */
 typedef struct viskorrel_reply {
     uint32_t outcome;
-    uint32_t number;   /* of a refusal, 1 to 17 */
+    uint32_t number;   /* of a refusal, 1 to 19 */
     uint32_t side;     /* of a refusal, 0 to 2 */
     double value;      /* a distance that was answered; may be NaN, whose sign and payload mean nothing */
 } viskorrel_reply;
@@ -99,6 +101,9 @@ typedef struct viskorrel_root {
 /* The bytes that a blob takes in the output. */
 #define VISKORREL_POINT_BYTES 37
 #define VISKORREL_LINE_BYTES 65
+
+/* The bytes that a join takes beside those of its two geometries. */
+#define VISKORREL_JOIN_BYTES 17
 
 /* The rules of the least distance: whether a segment that passes through a triangle touches it. LEAST DISTANCE says more. */
 #define VISKORREL_RULE_1 1
@@ -226,6 +231,24 @@ viskorrel_reply viskorrel_3d_line_interpolate_point(
     const uint8_t *blob, size_t length, double fraction,
     double *floats, size_t floats_length, uint32_t *table, size_t table_length,
     uint8_t *output, size_t output_length);
+
+/*
+ * JOIN. Two blobs as one: a GeoPackage header without envelope, little-endian, with the SRID of both, the empty flag not set; then a
+ * collection of type 1007, little-endian, with two members: the bytes of a's geometry as they stand, then those of b's. Byte orders,
+ * dimensions and SRIDs inside are kept; envelopes, and the bytes after a geometry's end, are left out. The result is a blob that can be read
+ * (a's runs, then b's), measured, and joined again where a level is left. If no computed distance is NaN, the greatest distance from it to a
+ * third blob is the larger of the two separate ones, or the only one there is; else there is none.
+ *
+ * SRIDs are compared as numbers, whatever byte order they stand in: that of a GeoPackage header, also where it is 0, else that of the EWKB
+ * header, else 0. Both blobs need Z. A join is a level deeper than its parts: a geometry 32 levels deep can be read, and not joined.
+ *
+ * first is the size, 17 and the lengths of both geometries: so many bytes of the output are written, from its start on. second is 0, and the
+ * outcome never nothing. An output of a_length + b_length + 17 bytes always suffices.
+ * Lent: both blobs, the output; no workspace. Changed: the first bytes of the output, as many as first says.
+ * Refusals: 3 to 13, 16, 18, 19.
+ */
+viskorrel_pair viskorrel_join(
+    const uint8_t *a, size_t a_length, const uint8_t *b, size_t b_length, uint8_t *output, size_t output_length);
 
 /*
  * PATCHES of a polyhedral surface, TIN or triangle, counted from 0. A triangle is its own patch 0, to the blob's end.

@@ -23,6 +23,8 @@ EXPORTED const char *viskorrel_words(uint32_t number)
         "the floats or the table of that side are too short",
         "the output is too short, even where the answer is nothing",
         "operations by the least distance: the rule is a number other than 1 or 2",
+        "join: the SRIDs of the two blobs differ",
+        "join: a geometry would stand more than 32 levels deep",
     };
 
     return number >= 1 && number <= sizeof words / sizeof words[0] ? words[number - 1] : "a number outside the table";

@@ -3,3 +3,4 @@ pub mod Returned
 pub mod LineReplies
 pub mod ReadReply
 pub mod PatchSteps
+pub mod SizeReplies

@@ -7,12 +7,16 @@ use lib.ListN.{length}
 use lib.Ieee.{Float}
 use Rattle.ieee754.specs.MinMax.{positiveZero}
 use Rattle.refusals.specs.Checks.{firstOf}
+use Rattle.refusals.specs.declared.Refusal.{Refusal}
 use Rattle.workspace.specs.Workspace.{floatsPerCoordinate, numbersPerRun}
 use Rattle.blob.specs.Blob.{blobChecks, answerBy, floatsBy, tableBy}
 use Rattle.blob.specs.declared.BlobRead.{BlobRead}
 use Rattle.blob.specs.declared.BlobRead.the-variants as blob-read
 use Rattle.blob.specs.declared.Sizes.{Sizes}
 use Rattle.blob.specs.declared.Sizes.the-variants as sizes
+use Rattle.blob.specs.declared.WrittenSize.{WrittenSize}
+use Rattle.blob.specs.declared.WrittenSize.the-variants as written-size
+use Rattle.blob.specs.Written.{sizeBy, outputBy}
 use Rattle.operands.specs.Operands.{Workspaces, workspaces}
 use Rattle.surface.specs.Patches.{Patch}
 use Rattle.surface.specs.Patches as patch
@@ -104,3 +108,25 @@ readBy first s w =
 
 unfoldable pub readReturned : List ℕ → Workspaces → ReturnedPair
 readReturned s w = readBy (firstOf (blobChecks s (length (w .floats1)) (length (w .table1)))) s w
+
+-- ---- a blob of any size written
+
+-- its size, then 0
+abbrev pub replySize : ℕ → PairReply
+replySize n = pairOf 1 n 0
+
+unfoldable pub sizeReply : WrittenSize → PairReply
+sizeReply (written-size.Bytes n) = replySize n
+sizeReply (written-size.Refused r) = pairRefused (r .number) (r .side)
+
+-- what a call that writes a blob returns and leaves: a reply, and the output
+pub record ReturnedSize : Type 0 where
+  pub reply : PairReply
+  pub output : List ℕ
+
+abbrev pub returnedSize : PairReply → List ℕ → ReturnedSize
+returnedSize r output = record { reply = r; output = output }
+
+-- by the first check that holds: a refusal, with the output unchanged, or the blob's size, and the blob in the output
+unfoldable pub sizeReturned : Option Refusal → List ℕ → List ℕ → ReturnedSize
+sizeReturned first written output = returnedSize (sizeReply (sizeBy first written)) (outputBy first written output)

@@ -1,5 +1,6 @@
 // What C reads of an answer: a case, the number and side of a refusal, and a number or two; a root and its digits.
 // Undecided in its contracts is only the payload, sign included, of a NaN in an answered number.
+use blob::WrittenSize;
 use ieee754::RootAndDigits;
 use interpolation::Interpolated;
 use outcomes::Answer;
@@ -12,7 +13,7 @@ ghost use Rattle.interpolation.specs.Operation.{interpolatedReport};
 ghost use Rattle.outcomes.specs.Answers.{answerReport, decisionReport, writtenReport};
 ghost use Rattle.surface.specs.Patches.{patchValue};
 ghost use Rattle.replies.specs.Replies.{replyNothing, replyAnswered, replyRefused, replyOf};
-ghost use Rattle.replies.specs.Replies.{pairOf, pairRefused, patchReply};
+ghost use Rattle.replies.specs.Replies.{pairOf, pairRefused, patchReply, sizeReply};
 
 // What an operation returns: a case, the number and side of a refusal, a number.
 #[repr(C)]
@@ -166,6 +167,16 @@ pub fn reply_to_patch(range: PatchRange) -> PairReply
         PatchRange::Nothing => pair(NOTHING, 0, 0),
         PatchRange::NoSurface => pair(NO_SURFACE, 0, 0),
         PatchRange::Refused(refusal) => pair_refused(refusal),
+    }
+}
+
+// The reply to a blob that was written: its size.
+pub fn reply_to_size(size: WrittenSize) -> PairReply
+    ensures { λ r. ⌜ r ≡ sizeReply size ⌝ }
+{
+    match size {
+        WrittenSize::Bytes(n) => pair(ANSWERED, n, 0),
+        WrittenSize::Refused(refusal) => pair_refused(refusal),
     }
 }
 

@@ -18,18 +18,23 @@ use workspace::NUMBERS_PER_RUN;
 ghost use mathlib.Core.Path.{_≡_};
 ghost use mathlib.Core.List.{[]};
 ghost use Prim.Native.Nat.{ℕ, _+_, _-_};
+ghost use lib.ListN.{length};
+ghost use Rattle.refusals.specs.Checks.{firstOf};
 ghost use Rattle.blob.specs.Blob.{sizesOf};
 ghost use Rattle.interpolation.specs.Operation.{lineInterpolatePoint};
 ghost use Rattle.ieee754.specs.MinMax.{positiveZero};
 ghost use Rattle.ieee754.specs.Root.{rootOf};
 ghost use Rattle.ieee754.specs.Digits.{digitsNeeded};
 ghost use Rattle.surface.specs.Patches.{patchValue, patchOf, listOf, nextOf, Before};
+ghost use Rattle.joining.specs.Joined.{joinedBlob, joinChecks};
+ghost use Rattle.joining.specs.Promises.{JoinReads, JoinMaxDistance};
 ghost use Rattle.outcomes.specs.Lent.{lent, left, lentOne, leftOne};
 ghost use Rattle.outcomes.specs.Operations.{distance, maxDistance, within, fullyWithin};
 ghost use Rattle.outcomes.specs.Operations.{intersects, closestPoint, shortestLine, longestLine};
 ghost use Rattle.outcomes.specs.ThirdProperty.{LongestOfAll, ShortestOfPoints};
 ghost use Rattle.replies.specs.Replies.{replyNothing, replyAnswered, returned, returnedOf};
 ghost use Rattle.replies.specs.Replies.{sizesReply, patchReply, returnedPair, readReturned};
+ghost use Rattle.replies.specs.Replies.{replySize, returnedSize, sizeReturned};
 ghost use Rattle.replies.specs.PatchReplies.{patchesReply};
 
 // The least distance of a and b.
@@ -300,6 +305,18 @@ pub extern "C" fn viskorrel_read(blob: &[u8], floats: &mut [f64], table: &mut [u
         ),
         BlobRead::Refused(refusal) => pair_refused(refusal),
     }
+}
+
+// Both geometries as one collection in the output: its size.
+#[no_mangle]
+pub extern "C" fn viskorrel_join(a: &[u8], b: &[u8], output: &mut [u8]) -> PairReply
+    ensures whole_outcome { λ r. ⌜ returnedSize r (now (output .exit))
+        ≡ sizeReturned (firstOf (joinChecks (now (a .entry)) (now (b .entry)) (length (now (output .entry)))))
+        (joinedBlob (now (a .entry)) (now (b .entry))) (now (output .entry)) ⌝ }
+    ensures reads_as_both { λ r. ⌜ JoinReads replySize (now (a .entry)) (now (b .entry)) r (now (output .exit)) ⌝ }
+    ensures max_distance_of_both { λ r. ⌜ JoinMaxDistance replySize (now (a .entry)) (now (b .entry)) r (now (output .exit)) ⌝ }
+{
+    replies::reply_to_size(joining::join(a, b, output))
 }
 
 // The patches of a surface: where the first starts, then how many there are.
