@@ -126,6 +126,11 @@ pub fn line_interpolate_point(blob: &[u8], fraction: f64, workspace: &mut Worksp
     }
 }
 
+pub fn join(a: &[u8], b: &[u8], output: &mut [u8]) -> Pair {
+    // SAFETY: every pointer and length are those of one live slice; see the head of this module.
+    unsafe { sys::viskorrel_join(a.as_ptr(), a.len(), b.as_ptr(), b.len(), output.as_mut_ptr(), output.len()) }
+}
+
 pub fn root_digits(s: f64) -> Root {
     // SAFETY: a number is passed, and nothing is lent.
     unsafe { sys::viskorrel_root_digits(s) }

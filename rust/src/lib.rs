@@ -105,6 +105,32 @@ pub fn read(blob: &[u8]) -> Result<Read, Refusal> {
     Ok(Read { floats: workspace.floats, table: workspace.table })
 }
 
+/// Two blobs as one: a GeoPackage blob with the SRID of both, whose geometry is a collection of the two, the bytes of each as they stand.
+/// Envelopes and what trails a geometry are left out. Both need Z. Refusals: 3 to 13; 18, the SRIDs differ; 19, a geometry would stand
+/// more than 32 levels deep.
+///
+/// If no distance is NaN, the greatest distance from the join to a third blob is the larger of the two separate ones, or the only one there
+/// is.
+///
+/// ```
+/// fn point(x: f64) -> Vec<u8> {
+///     let mut blob = vec![1, 0xE9, 3, 0, 0]; // little-endian, point with Z
+///     blob.extend([x, 0.0, 0.0].iter().flat_map(|ordinate| ordinate.to_le_bytes()));
+///     blob
+/// }
+/// let both = viskorrel::join(&point(0.0), &point(3.0)).unwrap();
+/// assert_eq!(both.len(), 17 + 2 * 29);
+/// assert_eq!(viskorrel::st_3d_max_distance(&both, &point(7.0)), Ok(Some(7.0)));
+/// ```
+pub fn join(a: &[u8], b: &[u8]) -> Result<Vec<u8>, Refusal> {
+    // always enough, so that 16 is not met
+    let mut output = vec![0; a.len() + b.len() + viskorrel_sys::JOIN_BYTES];
+    let pair = c::join(a, b, &mut output);
+    pair.answered()?;
+    output.truncate(pair.first);
+    Ok(output)
+}
+
 /// Patch `n` of a surface, counted from 0. A triangle is its own patch 0, to the blob's end. Every patch is scanned: [`patches`] scans each
 /// once. Refusals: 9 and 10, from the surface's SRID or count, or any patch.
 pub fn patch(blob: &[u8], n: u64) -> Result<Patch<'_>, Refusal> {

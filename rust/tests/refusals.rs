@@ -8,7 +8,7 @@ const O: P = [0.0, 0.0, 0.0];
 type OnTwo = fn(&[u8], &[u8]) -> Option<Refusal>;
 
 /// The operations on two blobs; `None` where they answer.
-const ON_TWO: [OnTwo; 8] = [
+const ON_TWO: [OnTwo; 9] = [
     |a, b| st_3d_distance(a, b).err(),
     |a, b| st_3d_max_distance(a, b).err(),
     |a, b| st_3d_dwithin(a, b, 1.0).err(),
@@ -17,6 +17,7 @@ const ON_TWO: [OnTwo; 8] = [
     |a, b| st_3d_closest_point(a, b).err(),
     |a, b| st_3d_shortest_line(a, b).err(),
     |a, b| st_3d_longest_line(a, b).err(),
+    |a, b| join(a, b).err(),
 ];
 
 /// The geometry behind a header with this version and these flags.
@@ -99,7 +100,8 @@ fn words() {
     assert_eq!(said(1, 0), "refusal 1: d is below 0");
     assert_eq!(said(10, 2), "refusal 10, side 2: a byte order is above 1");
     assert_eq!(said(17, 0), "refusal 17: operations by the least distance: the rule is a number other than 1 or 2");
-    assert_eq!(said(18, 0), "refusal 18: a number outside the table");
+    assert_eq!(said(18, 0), "refusal 18: join: the SRIDs of the two blobs differ");
+    assert_eq!(said(20, 0), "refusal 20: a number outside the table");
     assert_eq!(said(0, 0), "refusal 0: a number outside the table");
     let error: Box<dyn std::error::Error> = st_3d_distance(&[], &[]).unwrap_err().into();
     assert_eq!(
@@ -116,7 +118,7 @@ fn words_are_those_of_the_header() {
         .filter_map(|row| row.strip_prefix(" *")?.trim_start().split_once("  "))
         .filter_map(|(number, words)| Some((number.parse().ok()?, words)))
         .collect();
-    assert_eq!(table.len(), 17);
+    assert_eq!(table.len(), 19);
     for (place, (number, words)) in (1..).zip(table) {
         assert_eq!(number, place);
         assert_eq!(Refusal { number, side: 0 }.condition(), words);

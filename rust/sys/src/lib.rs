@@ -16,6 +16,9 @@ pub const RULE_2: u32 = 2;
 pub const POINT_BYTES: usize = 37;
 pub const LINE_BYTES: usize = 65;
 
+/// The bytes that a join takes beside those of its two geometries.
+pub const JOIN_BYTES: usize = 17;
+
 /// `viskorrel_reply`
 #[repr(C)]
 #[derive(Clone, Copy, Debug)]
@@ -84,6 +87,7 @@ extern "C" {
     pub fn viskorrel_patches(blob: *const u8, length: usize) -> Pair;
     pub fn viskorrel_next_patch(blob: *const u8, length: usize, at: usize, left: usize) -> Pair;
     pub fn viskorrel_root_digits(s: f64) -> Root;
+    pub fn viskorrel_join(a: *const u8, a_length: usize, b: *const u8, b_length: usize, output: *mut u8, output_length: usize) -> Pair;
     pub fn viskorrel_3d_line_interpolate_point(
         blob: *const u8,
         length: usize,
