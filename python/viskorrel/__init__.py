@@ -11,14 +11,14 @@ from ._geometry import Blobs, srid, wkb
 from ._library import LibraryMissing, load
 from ._nearest import Nearest, nearest
 from ._operations import (
-    NoSurface, closest_point, dfully_within, distance, dwithin, intersects, library_version, line_interpolate_point, longest_line,
+    NoSurface, closest_point, dfully_within, distance, dwithin, intersects, join, library_version, line_interpolate_point, longest_line,
     max_distance, patch, patches, read, refusal, shortest_line, sizes)
 from ._refusal import Refusal
 from ._root import RootAndDigits, root_digits
 
-__version__ = "0.5.0"
+__version__ = "0.6.0"
 
 __all__ = [
     "Blobs", "LibraryMissing", "Nearest", "NoSurface", "Refusal", "RootAndDigits", "batch", "closest_point", "dfully_within", "distance", "dwithin",
-    "intersects", "library_version", "line_interpolate_point", "load", "longest_line", "max_distance", "nearest", "patch", "patches", "read",
-    "refusal", "root_digits", "shortest_line", "sizes", "srid", "wkb"]
+    "intersects", "join", "library_version", "line_interpolate_point", "load", "longest_line", "max_distance", "nearest", "patch", "patches",
+    "read", "refusal", "root_digits", "shortest_line", "sizes", "srid", "wkb"]

@@ -9,6 +9,7 @@ SONAME = "libviskorrel.so.2"
 
 NOTHING, ANSWERED, REFUSED, NO_SURFACE = 0, 1, 2, 3
 POINT_BYTES, LINE_BYTES = 37, 65
+JOIN_BYTES = 17  # beside those of both geometries
 COORDINATE_FLOATS, RUN_NUMBERS = 4, 2  # what each takes of a workspace: x, y, z, m; kind and count
 
 size, address = ctypes.c_size_t, ctypes.c_void_p
@@ -61,6 +62,7 @@ FUNCTIONS = {
     "viskorrel_3d_longest_line": (Reply, BLOB * 2 + WORKSPACE * 2 + OUTPUT),
     "viskorrel_3d_line_interpolate_point": (Reply, BLOB + NUMBER + WORKSPACE + OUTPUT),
     "viskorrel_read": (Pair, BLOB + WORKSPACE),
+    "viskorrel_join": (Pair, BLOB * 2 + OUTPUT),
     "viskorrel_patch": (Pair, BLOB + [ctypes.c_uint64]),
     "viskorrel_patches": (Pair, BLOB),
     "viskorrel_next_patch": (Pair, BLOB + [size] * 2),

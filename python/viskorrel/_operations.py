@@ -3,7 +3,7 @@ import ctypes
 import threading
 
 from ._geometry import blob
-from ._library import ANSWERED, COORDINATE_FLOATS, LINE_BYTES, NO_SURFACE, POINT_BYTES, REFUSED, RUN_NUMBERS, library
+from ._library import ANSWERED, COORDINATE_FLOATS, JOIN_BYTES, LINE_BYTES, NO_SURFACE, POINT_BYTES, REFUSED, RUN_NUMBERS, library
 from ._refusal import Refusal
 from ._rule import rule_number
 
@@ -34,15 +34,24 @@ class Memory(threading.local):
 MEMORY = Memory()
 
 
+def given(blobs):
+    """Each with its length."""
+    return [part for geometry in blobs for part in (geometry, len(geometry))]
+
+
 def ask(name, blobs, numbers=(), output=()):
     """The reply to a call. A workspace is looked at last, and a refused call changes nothing: where it is too short, lengthen, ask again."""
-    function = getattr(library(), name)
-    given = [part for geometry in blobs for part in (geometry, len(geometry))]
+    function, sides = getattr(library(), name), given(blobs)
     for _ in range(3):
-        reply = function(*given, *numbers, *MEMORY.workspaces[:4 * len(blobs)], *output)
+        reply = function(*sides, *numbers, *MEMORY.workspaces[:4 * len(blobs)], *output)
         if reply.outcome != REFUSED or reply.number != TOO_SHORT:
             break
         MEMORY.lengthen(reply.side - 1, blobs[reply.side - 1])
+    return accepted(reply, blobs)
+
+
+def accepted(reply, blobs):
+    """The reply; a refusal is raised, with the geometry that it speaks of."""
     if reply.outcome == REFUSED:
         raise Refusal(reply.number, reply.side, blobs[reply.side - 1] if reply.side else None)
     return reply
@@ -107,15 +116,24 @@ def line_interpolate_point(line, fraction):
     return written("viskorrel_3d_line_interpolate_point", POINT_BYTES, (blob(line),), (fraction,))
 
 
+def join(a, b):
+    """Both geometries as one, a GeoPackage blob: a collection of the two, the bytes of each as they stand.
+
+    The SRIDs must be equal (else Refusal 18), and no geometry may come to stand more than 32 levels deep (19).
+    """
+    blobs = blob(a), blob(b)
+    output = ctypes.create_string_buffer(sum(map(len, blobs)) + JOIN_BYTES)  # always enough
+    reply = accepted(library().viskorrel_join(*given(blobs), ctypes.addressof(output), len(output)), blobs)
+    return ctypes.string_at(output, reply.first)
+
+
 class NoSurface(ValueError):
     """The geometry is no polyhedral surface, TIN or triangle, or what stands before its content is at fault."""
 
 
 def ask_of(name, geometry, *numbers):
     """The reply to a question about one geometry, for which no memory is lent."""
-    reply = getattr(library(), name)(geometry, len(geometry), *numbers)
-    if reply.outcome == REFUSED:
-        raise Refusal(reply.number, reply.side, geometry)
+    reply = accepted(getattr(library(), name)(geometry, len(geometry), *numbers), (geometry,))
     if reply.outcome == NO_SURFACE:
         raise NoSurface("the geometry is no surface")
     return reply
