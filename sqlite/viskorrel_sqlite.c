@@ -25,6 +25,7 @@ enum form {
     LINE,         /* two blobs, and a rule where it takes one; a line or NULL */
     INTERPOLATED, /* a blob and a fraction; a point */
     PATCH,        /* a blob and a number from 1 on; a part of the blob, or NULL */
+    JOIN,         /* two blobs; a collection of both */
     REFUSAL,      /* anything; NULL or words */
     VERSION       /* nothing; words */
 };
@@ -35,7 +36,7 @@ struct function {
     int arguments;      /* how many, the rule aside */
     int blobs;          /* how many of them, from the first on, are blobs */
     int rules;          /* whether a rule may stand after them */
-    uint32_t operation; /* of the library, where it is a measure: all but the last three */
+    uint32_t operation; /* of the library, where it is a measure: all but the last four */
 };
 
 static const struct function functions[] = {
@@ -49,6 +50,7 @@ static const struct function functions[] = {
     {"ST_3DLongestLine", LINE, 2, 2, 0, VISKORREL_LONGEST_LINE},
     {"ST_3DLineInterpolatePoint", INTERPOLATED, 2, 1, 0, VISKORREL_LINE_INTERPOLATE_POINT},
     {"ST_PatchN", PATCH, 2, 1, 0, 0},
+    {"Viskorrel_Join", JOIN, 2, 2, 0, 0},
     {"Viskorrel_Refusal", REFUSAL, 1, 0, 0, 0},
     {"Viskorrel_Version", VERSION, 0, 0, 0, 0},
 };
@@ -207,7 +209,7 @@ static int read_arguments(sqlite3_context *context, int count, sqlite3_value **v
     return 1;
 }
 
-/* Every measure: all functions but the last three. */
+/* Every measure: all functions but the last four. */
 static void operation(sqlite3_context *context, int count, sqlite3_value **values)
 {
     struct call call = {0};
@@ -271,6 +273,33 @@ static void patch(sqlite3_context *context, int count, sqlite3_value **values)
         sqlite3_result_blob64(context, surface->blob + part.first, part.second - part.first, SQLITE_TRANSIENT);
 }
 
+/* Viskorrel_Join: the output always suffices, so that 16 is not met. */
+static void join(sqlite3_context *context, int count, sqlite3_value **values)
+{
+    struct call call = {0};
+    const struct side *a, *b;
+    viskorrel_pair size;
+    size_t lent;
+    uint8_t *output;
+
+    if (!read_arguments(context, count, values, &call))
+        return;
+    a = &call.measurer->sides[0];
+    b = &call.measurer->sides[1];
+    lent = a->length + b->length + VISKORREL_JOIN_BYTES;
+    output = allocate(lent);
+    if (!output) {
+        sqlite3_result_error_nomem(context);
+        return;
+    }
+    size = viskorrel_join(a->blob, a->length, b->blob, b->length, output, lent);
+    if (size.outcome == VISKORREL_REFUSED) {
+        refused(context, &call, size.number, size.side);
+        sqlite3_free(output);
+    } else
+        sqlite3_result_blob64(context, output, size.first, sqlite3_free);
+}
+
 /* Viskorrel_Refusal: NULL for NULL, and for a blob that an operation on two blobs accepts. */
 static void refusal(sqlite3_context *context, int count, sqlite3_value **values)
 {
@@ -313,6 +342,8 @@ static void (*body(enum form form))(sqlite3_context *, int, sqlite3_value **)
     switch (form) {
     case PATCH:
         return patch;
+    case JOIN:
+        return join;
     case REFUSAL:
         return refusal;
     case VERSION:
