@@ -18,6 +18,8 @@ Joins copies of a GeoPackage file that were changed apart into a new file; no in
 Rows of the base that no copy changed stay. Rows that a copy added come in under new ids, with the copy's name in the column joined_from; the
 same row added in several copies comes in once. What one copy changed or deleted, or several in the same way, is done. A row that copies
 changed differently, or that one changed and another deleted, is a conflict: it is named, and there is no output unless --prefer decides.
+
+Files are joined here, row by row; two geometries are joined into one by viskorrel.join in Python, Viskorrel_Join in SQLite, viskorrel_join in C.
 """
 END = "Status 0: the joined file and its report were written. Status 1: there are errors or conflicts, on stderr, and no output is new."
 

@@ -33,7 +33,8 @@ Each dent group that has a NEW dent with the longest line from its dents to its 
   ./viskorrel demo [FOLDER]        makes corridor.gpkg in the folder (target/demo; installed: viskorrel-demo), prints its list,
                                    writes dig.csv, .svg, .html and .gpkg
   ./viskorrel FILE.gpkg [options]  prints the list of your file
-  ./viskorrel join OUT.gpkg --base FILE.gpkg COPY.gpkg ...    joins copies of a file that were changed apart (join --help)
+  ./viskorrel join OUT.gpkg --base FILE.gpkg COPY.gpkg ...    joins copies of a file that were changed apart (join --help);
+                                   two geometries are joined by viskorrel.join in Python, Viskorrel_Join in SQLite, viskorrel_join in C
 """
 END = """\
 Coordinates are in metres and have Z. Status 0: the whole list was printed, and every file written. Status 1: there are errors, on stderr;

@@ -11,6 +11,7 @@ X, Y = 500100.0, 5600200.0
 
 
 def tests(t):
+    told_apart(t)
     for name, base in (("plain", t.changed()), ("by GDAL", by_gdal(t))):
         week(t, name, base)
         conflicts(t, name, base)
@@ -18,6 +19,13 @@ def tests(t):
     others(t)
     failures(t)
     boxes(t)
+
+
+def told_apart(t):
+    """Who looks for a join of two geometries is sent to the functions."""
+    for words in (["--help"], ["join", "--help"]):
+        done = run(*words)
+        t.check(f"{' '.join(words)}: what joins geometries", all(name in done.stdout for name in ("viskorrel.join", "Viskorrel_Join", "viskorrel_join")), told(done))
 
 
 def by_gdal(t):
