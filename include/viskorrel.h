@@ -3,14 +3,15 @@
  *
  * Each function is proved to meet its contract (crates/viskorrel/src/lib.rt): for every input it ends, and its reply, the workspaces
  * and the output equal definitions (specs/ of crates/replies and of the crates that it stands on). Nothing is allocated, and nothing
- * is kept between calls.
+ * is kept between calls. viskorrel_job keeps about 50 KiB of its own on the stack while it runs.
  *
  * LENT MEMORY
  *
  * A buffer is passed as a pointer and a length. Lengths count elements, not bytes. What the caller must see to:
  *
  *   - A pointer is never null, also where its length is 0: pass any aligned address then, such as that of a local of its type.
- *   - A buffer that the call may change (workspaces, output) overlaps no other buffer of the call, and no other thread uses it meanwhile.
+ *   - A buffer that the call may change (workspaces, lists, output) overlaps no other buffer of the call, and no other thread uses it
+ *     meanwhile.
  *     Blobs are only read: one blob may be passed both as a and as b.
  *   - A pointer is aligned for its type, and so many elements from it on belong to the caller.
  *
@@ -20,13 +21,14 @@
  * and rings with at least one coordinate) takes the first 4N floats, x, y, z, m of each coordinate, and the first 2R numbers of the table,
  * kind and count of each run. A z or m that the encoding does not have is 0 (+0). viskorrel_sizes gives both lengths. The rest stays
  * unchanged; what the workspace held before does not matter. Every call that is not refused fills the workspaces, also where it answers
- * nothing. No distance, line or point depends on m, which may be NaN: a vertex is x, y and z.
+ * nothing. No distance, line or point depends on m, which may be NaN: a vertex is x, y and z. What a job leaves in its workspaces is open.
  *
  * REFUSALS
  *
- * A refused call changes nothing that was lent. (What is proved of floats is proved up to the payload and sign of a NaN: of a NaN that a
- * workspace holds, "unchanged" says that it is a NaN. That its bits stay too is what the comparison with the original tests.) `number`
- * says why it was refused; `side` says what it speaks of: 1 for a or the only blob, 2 for b, 0 for neither.
+ * A refused call changes nothing that was lent, the workspaces of a job apart. (What is proved of floats is proved up to the payload and sign
+ * of a NaN: of a NaN that a workspace holds, "unchanged" says that it is a NaN. That its bits stay too is what the comparison with the
+ * original tests.) `number` says why it was refused; `side` says what it speaks of: 1 for a or the only blob, 2 for b, 0 for neither; of a
+ * job 1 for the first number of a match, 2 for the second.
  *
  *    1  d is below 0
  *    2  the fraction is not within 0..1, or NaN
@@ -47,9 +49,13 @@
  *   17  operations by the least distance: the rule is a number other than 1 or 2
  *   18  join: the SRIDs of the two blobs differ
  *   19  join: a geometry would stand more than 32 levels deep
+ *   20  job: a command is unknown, or the tape ends before 04 or inside a command
+ *   21  job: a number is matched that is not loaded
+ *   22  job: there are more hits than the shortest list has places
  *
  * Where several hold, the first of this order is given: 1, 2; 17; side 1's header (3 to 8, 9 for its first five bytes, 10, then 13), side 2's;
  * the geometries of side 1, of side 2 (of each 12, 9, 10, 9 for the SRID, 11, then its content); 14; 15 of side 1, of side 2; 18; 19; 16.
+ * A job goes by its commands, in tape order: JOB says more.
  */
 #ifndef VISKORREL_H
 #define VISKORREL_H
@@ -57,7 +63,7 @@
 #include <stddef.h>
 #include <stdint.h>
 
-#define VISKORREL_VERSION "0.6.0"
+#define VISKORREL_VERSION "0.7.0"
 
 #ifdef __cplusplus
 extern "C" {
@@ -74,7 +80,7 @@ enum viskorrel_outcome {
 /* What an operation returns. A field is 0 where the outcome gives it no meaning. */
 typedef struct viskorrel_reply {
     uint32_t outcome;
-    uint32_t number;   /* of a refusal, 1 to 19 */
+    uint32_t number;   /* of a refusal, 1 to 22 */
     uint32_t side;     /* of a refusal, 0 to 2 */
     double value;      /* a distance that was answered; may be NaN, whose sign and payload mean nothing */
 } viskorrel_reply;
@@ -249,6 +255,50 @@ viskorrel_reply viskorrel_3d_line_interpolate_point(
  */
 viskorrel_pair viskorrel_join(
     const uint8_t *a, size_t a_length, const uint8_t *b, size_t b_length, uint8_t *output, size_t output_length);
+
+/*
+ * JOB. A tape of commands, answered by a list of hits: which of the blobs that it loads are within a tolerance of each other. A command is one
+ * byte, and its operands follow it, little-endian and without padding:
+ *
+ *     load       01, number u8, length u32, so many bytes: the blob of that number; loaded again, the new one takes the old one's place
+ *     tolerance  02, metres as a binary64: that of the matches from here on; before the first it is 0
+ *     match      03, first number u8, second number u8: a hit, if the least distance of the two by rule 1 is within the tolerance
+ *     end        04: what follows it is ignored
+ *
+ * Two points four metres apart, and whether they are within five, in 83 bytes; XX are the points' own 29 each:
+ *
+ *     01 07 1D 00 00 00 XX ..   01 09 1D 00 00 00 XX ..   02 00 00 00 00 00 00 14 40   03 07 09   04
+ *
+ *     uint16_t first[1], second[1];
+ *     double distances[1], floats1[4], floats2[4];
+ *     uint32_t table1[2], table2[2];
+ *     viskorrel_pair hits = viskorrel_job(tape, sizeof tape, floats1, 4, table1, 2, floats2, 4, table2, 2, first, 1, second, 1, distances, 1);
+ *
+ * answers one hit: first[0] is 7, second[0] is 9, distances[0] is 4.
+ *
+ * A hit is both numbers and the distance. A pair is within tolerance if there is a least distance and it is at most the tolerance, as
+ * viskorrel_3d_dwithin has it: a tolerance of NaN is not refused and gives no hit, and -0 is 0. A pair matched twice gives two hits, a number
+ * may be matched with itself, and the first number is side 1. A blob is looked at when it is matched, and never otherwise: what is loaded and
+ * not matched may be any bytes.
+ *
+ * The hits stand in the three lists, hit k in place k of each: first numbers, second numbers, distances. They hold as many as the shortest;
+ * as many places as the tape has matches always suffice. The order of the hits is open. Places past the hits keep what they held, and of a
+ * refused job all places do. What a job leaves in the workspaces is open, refused or not. The workspace of a side must suffice for each blob
+ * that is matched on that side: viskorrel_sizes gives the lengths.
+ *
+ * Commands are run in tape order, and the first that is at fault is the one refused: with 20, unknown or cut off; of a match then 21, a number
+ * not loaded; then 1, the tolerance is below 0 (side 0); then as viskorrel_3d_distance refuses the two blobs. A tape without an end is refused
+ * with 20 when all its commands are run. 22 comes after all of these: more hits than the shortest list holds.
+ *
+ * The number of hits in first; second is 0, and the outcome never nothing.
+ * Lent: the tape, a workspace for each side, the lists. Changed: the workspaces, and the first places of the lists, as many as first says.
+ * Refusals: 1, 3 to 13, 15, 20 to 22.
+ */
+viskorrel_pair viskorrel_job(
+    const uint8_t *tape, size_t tape_length,
+    double *floats1, size_t floats1_length, uint32_t *table1, size_t table1_length,
+    double *floats2, size_t floats2_length, uint32_t *table2, size_t table2_length,
+    uint16_t *first, size_t first_length, uint16_t *second, size_t second_length, double *distances, size_t distances_length);
 
 /*
  * PATCHES of a polyhedral surface, TIN or triangle, counted from 0. A triangle is its own patch 0, to the blob's end.

@@ -25,6 +25,9 @@ EXPORTED const char *viskorrel_words(uint32_t number)
         "operations by the least distance: the rule is a number other than 1 or 2",
         "join: the SRIDs of the two blobs differ",
         "join: a geometry would stand more than 32 levels deep",
+        "job: a command is unknown, or the tape ends before 04 or inside a command",
+        "job: a number is matched that is not loaded",
+        "job: there are more hits than the shortest list has places",
     };
 
     return number >= 1 && number <= sizeof words / sizeof words[0] ? words[number - 1] : "a number outside the table";

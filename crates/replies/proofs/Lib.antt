@@ -4,3 +4,4 @@ pub mod LineReplies
 pub mod ReadReply
 pub mod PatchSteps
 pub mod SizeReplies
+pub mod JobReplies

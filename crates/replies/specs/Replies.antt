@@ -1,5 +1,6 @@
 -- What C reads of an answer: a case, the table's number and side, and a value (document 01, "What the operations say"; the cases are this interface's). Definitions only.
 use Prim.Native.Nat.{ℕ, _*_}
+use mathlib.Core.Path.{_≡_}
 use mathlib.Core.Bool.{cond}
 use mathlib.Core.List.{List}
 use mathlib.Core.Option.{Option}
@@ -22,6 +23,9 @@ use Rattle.surface.specs.Patches.{Patch}
 use Rattle.surface.specs.Patches as patch
 use Rattle.outcomes.specs.Answers.{Value, number, decided, blob, nothing, Report, answering, refused}
 use Rattle.outcomes.specs.Operations.{Outcome}
+use Rattle.dig_matcher.specs.Job.{HitLists, placesIn, jobOf, answerOfJob, ListedBy}
+use Rattle.dig_matcher.specs.declared.JobAnswer.{JobAnswer}
+use Rattle.dig_matcher.specs.declared.JobAnswer.the-variants as job-answer
 use Rattle.replies.specs.declared.Reply.{Reply}
 use Rattle.replies.specs.declared.PairReply.{PairReply}
 
@@ -130,3 +134,15 @@ returnedSize r output = record { reply = r; output = output }
 -- by the first check that holds: a refusal, with the output unchanged, or the blob's size, and the blob in the output
 unfoldable pub sizeReturned : Option Refusal → List ℕ → List ℕ → ReturnedSize
 sizeReturned first written output = returnedSize (sizeReply (sizeBy first written)) (outputBy first written output)
+
+-- ---- a job
+
+-- the number of its hits, then 0
+unfoldable pub jobReply : JobAnswer → PairReply
+jobReply (job-answer.Hits n) = pairOf 1 n 0
+jobReply (job-answer.Refused r) = pairRefused (r .number) (r .side)
+
+-- what a call that runs a job returns and leaves: as the job's own outcome, told by the reply
+pub record JobReturned (tape : List ℕ) (w : Workspaces) (before after : HitLists) (r : PairReply) : Type 0 where
+  pub answer : r ≡ jobReply (answerOfJob (jobOf tape w (placesIn before)))
+  pub list : ListedBy (jobOf tape w (placesIn before)) before after

@@ -1,6 +1,7 @@
 // What C reads of an answer: a case, the number and side of a refusal, and a number or two; a root and its digits.
 // Undecided in its contracts is only the payload, sign included, of a NaN in an answered number.
 use blob::WrittenSize;
+use dig_matcher::JobAnswer;
 use ieee754::RootAndDigits;
 use interpolation::Interpolated;
 use outcomes::Answer;
@@ -13,7 +14,7 @@ ghost use Rattle.interpolation.specs.Operation.{interpolatedReport};
 ghost use Rattle.outcomes.specs.Answers.{answerReport, decisionReport, writtenReport};
 ghost use Rattle.surface.specs.Patches.{patchValue};
 ghost use Rattle.replies.specs.Replies.{replyNothing, replyAnswered, replyRefused, replyOf};
-ghost use Rattle.replies.specs.Replies.{pairOf, pairRefused, patchReply, sizeReply};
+ghost use Rattle.replies.specs.Replies.{pairOf, pairRefused, patchReply, sizeReply, jobReply};
 
 // What an operation returns: a case, the number and side of a refusal, a number.
 #[repr(C)]
@@ -177,6 +178,16 @@ pub fn reply_to_size(size: WrittenSize) -> PairReply
     match size {
         WrittenSize::Bytes(n) => pair(ANSWERED, n, 0),
         WrittenSize::Refused(refusal) => pair_refused(refusal),
+    }
+}
+
+// The reply to a job: the number of its hits.
+pub fn reply_to_job(answer: JobAnswer) -> PairReply
+    ensures { λ r. ⌜ r ≡ jobReply answer ⌝ }
+{
+    match answer {
+        JobAnswer::Hits(n) => pair(ANSWERED, n, 0),
+        JobAnswer::Refused(refusal) => pair_refused(refusal),
     }
 }
 

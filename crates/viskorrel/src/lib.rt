@@ -34,7 +34,8 @@ ghost use Rattle.outcomes.specs.Operations.{intersects, closestPoint, shortestL
 ghost use Rattle.outcomes.specs.ThirdProperty.{LongestOfAll, ShortestOfPoints};
 ghost use Rattle.replies.specs.Replies.{replyNothing, replyAnswered, returned, returnedOf};
 ghost use Rattle.replies.specs.Replies.{sizesReply, patchReply, returnedPair, readReturned};
-ghost use Rattle.replies.specs.Replies.{replySize, returnedSize, sizeReturned};
+ghost use Rattle.replies.specs.Replies.{replySize, returnedSize, sizeReturned, JobReturned};
+ghost use Rattle.dig_matcher.specs.Job.{hitLists};
 ghost use Rattle.replies.specs.PatchReplies.{patchesReply};
 
 // The least distance of a and b.
@@ -317,6 +318,35 @@ pub extern "C" fn viskorrel_join(a: &[u8], b: &[u8], output: &mut [u8]) -> PairR
     ensures max_distance_of_both { λ r. ⌜ JoinMaxDistance replySize (now (a .entry)) (now (b .entry)) r (now (output .exit)) ⌝ }
 {
     replies::reply_to_size(joining::join(a, b, output))
+}
+
+// A job: the number of its hits, which are in the first places of the three lists, in an order that is left open. What it
+// leaves in the workspaces is open too.
+#[no_mangle]
+pub extern "C" fn viskorrel_job(
+    tape: &[u8],
+    floats1: &mut [f64],
+    table1: &mut [u32],
+    floats2: &mut [f64],
+    table2: &mut [u32],
+    first: &mut [u16],
+    second: &mut [u16],
+    distances: &mut [f64],
+) -> PairReply
+    ensures whole_outcome { λ r. ⌜ JobReturned (now (tape .entry)) (lent floats1 table1 floats2 table2)
+        (hitLists (now (first .entry)) (now (second .entry)) (now (distances .entry)))
+        (hitLists (now (first .exit)) (now (second .exit)) (now (distances .exit))) r ⌝ }
+{
+    replies::reply_to_job(dig_matcher::job(
+        tape,
+        floats1,
+        table1,
+        floats2,
+        table2,
+        first,
+        second,
+        distances,
+    ))
 }
 
 // The patches of a surface: where the first starts, then how many there are.
