@@ -52,6 +52,14 @@ pub struct Workspace {
     pub table: Vec<u32>,
 }
 
+/// The memory that the hits of a job are written into.
+#[derive(Debug)]
+pub struct Lists {
+    pub first: Vec<u16>,
+    pub second: Vec<u16>,
+    pub distances: Vec<f64>,
+}
+
 /// The safe function over an export on two blobs. The export's number, rule and output are named where it has them.
 macro_rules! on_two_blobs {
     ($(fn $name:ident = $export:ident ( $(number $number:ident)? $(rule $rule:ident)? $(output $output:ident)? );)*) => {
@@ -129,6 +137,31 @@ pub fn line_interpolate_point(blob: &[u8], fraction: f64, workspace: &mut Worksp
 pub fn join(a: &[u8], b: &[u8], output: &mut [u8]) -> Pair {
     // SAFETY: every pointer and length are those of one live slice; see the head of this module.
     unsafe { sys::viskorrel_join(a.as_ptr(), a.len(), b.as_ptr(), b.len(), output.as_mut_ptr(), output.len()) }
+}
+
+pub fn job(tape: &[u8], one: &mut Workspace, two: &mut Workspace, lists: &mut Lists) -> Pair {
+    let Lists { first, second, distances } = lists;
+    // SAFETY: every pointer and length are those of one live slice; see the head of this module.
+    unsafe {
+        sys::viskorrel_job(
+            tape.as_ptr(),
+            tape.len(),
+            one.floats.as_mut_ptr(),
+            one.floats.len(),
+            one.table.as_mut_ptr(),
+            one.table.len(),
+            two.floats.as_mut_ptr(),
+            two.floats.len(),
+            two.table.as_mut_ptr(),
+            two.table.len(),
+            first.as_mut_ptr(),
+            first.len(),
+            second.as_mut_ptr(),
+            second.len(),
+            distances.as_mut_ptr(),
+            distances.len(),
+        )
+    }
 }
 
 pub fn root_digits(s: f64) -> Root {

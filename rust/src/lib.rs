@@ -27,10 +27,12 @@ mod c;
 mod measurer;
 mod refusal;
 mod rule;
+mod tape;
 
 pub use measurer::Measurer;
 pub use refusal::Refusal;
 pub use rule::Rule;
+pub use tape::{Hit, Tape};
 
 use c::Outcome;
 use std::cell::RefCell;
@@ -182,6 +184,16 @@ thread_local! {
 /// Calls with the thread's measurer, or with a fresh one where the thread is ending and its own is gone.
 fn with<T>(call: impl Fn(&mut Measurer) -> T) -> T {
     MEASURER.try_with(|measurer| call(&mut measurer.borrow_mut())).unwrap_or_else(|_| call(&mut Measurer::new()))
+}
+
+/// See [`Measurer::job`]. Refusals: 1, 3 to 13, 20, 21.
+pub fn job(tape: &Tape) -> Result<Vec<Hit>, Refusal> {
+    with(|measurer| measurer.job(tape))
+}
+
+/// See [`Measurer::job_with_capacity`]. Refusals: 1, 3 to 13, 20 to 22.
+pub fn job_with_capacity(tape: &Tape, capacity: usize) -> Result<Vec<Hit>, Refusal> {
+    with(|measurer| measurer.job_with_capacity(tape, capacity))
 }
 
 /// See [`Measurer::st_3d_distance`]. Refusals: 3 to 13.

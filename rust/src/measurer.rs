@@ -1,5 +1,5 @@
-use crate::c::{self, Outcome, Reply, Workspace};
-use crate::{Refusal, Rule};
+use crate::c::{self, Lists, Outcome, Reply, Workspace};
+use crate::{Hit, Refusal, Rule, Tape};
 use viskorrel_sys::{LINE_BYTES, POINT_BYTES};
 
 /// The number of the refusal that a workspace is too short.
@@ -111,6 +111,29 @@ impl Measurer {
         }
         // the outcome of this one is never nothing
         reply.answered().map(|_| output.to_vec())
+    }
+
+    /// The hits of a tape, as many as there are. Their order is open.
+    ///
+    /// The first number of a match is side 1. Refusals: 1, 3 to 13 at a match; 20, the tape is at fault; 21, a number is not loaded.
+    pub fn job(&mut self, tape: &Tape) -> Result<Vec<Hit>, Refusal> {
+        // no pair gives two hits, so that 22 is not met
+        self.job_with_capacity(tape, tape.pairs())
+    }
+
+    /// The same, with room for so many hits; more are refused, with 22, after every other fault was looked for.
+    pub fn job_with_capacity(&mut self, tape: &Tape, capacity: usize) -> Result<Vec<Hit>, Refusal> {
+        // enough for every blob on either side, so that 15 is not met
+        for blob in tape.blobs() {
+            grow(&mut self.one, blob);
+            grow(&mut self.two, blob);
+        }
+        let mut lists = Lists { first: vec![0; capacity], second: vec![0; capacity], distances: vec![0.0; capacity] };
+        let pair = c::job(tape.bytes(), &mut self.one, &mut self.two, &mut lists);
+        // the outcome of this one is never nothing
+        pair.answered()?;
+        let numbers = lists.first.iter().zip(&lists.second).zip(&lists.distances).take(pair.first);
+        Ok(numbers.map(|((&first, &second), &distance)| Hit { first, second, distance }).collect())
     }
 
     /// Calls with the memory at hand; where that is too short, grows it and calls again.

@@ -4,10 +4,10 @@ use std::fmt;
 /// Why a call was refused. The conditions, and which one is given where several hold, are those of `include/viskorrel.h`.
 #[derive(Clone, Copy, Debug, PartialEq, Eq, Hash)]
 pub struct Refusal {
-    /// 1 to 14, 17 where a number was to be a [`Rule`](crate::Rule), 18 and 19 from [`join`](crate::join). A 15 or 16 (too little was lent)
-    /// does not reach a caller.
+    /// 1 to 14, 17 where a number was to be a [`Rule`](crate::Rule), 18 and 19 from [`join`](crate::join), 20 to 22 from
+    /// [`job`](crate::job). A 15 or 16 (too little was lent) does not reach a caller.
     pub number: u32,
-    /// 1 for `a` or the only blob, 2 for `b`, 0 for neither.
+    /// 1 for `a` or the only blob, 2 for `b`, 0 for neither; of a match 1 for its first number, 2 for its second.
     pub side: u32,
 }
 

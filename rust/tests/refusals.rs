@@ -101,7 +101,8 @@ fn words() {
     assert_eq!(said(10, 2), "refusal 10, side 2: a byte order is above 1");
     assert_eq!(said(17, 0), "refusal 17: operations by the least distance: the rule is a number other than 1 or 2");
     assert_eq!(said(18, 0), "refusal 18: join: the SRIDs of the two blobs differ");
-    assert_eq!(said(20, 0), "refusal 20: a number outside the table");
+    assert_eq!(said(21, 0), "refusal 21: job: a number is matched that is not loaded");
+    assert_eq!(said(23, 0), "refusal 23: a number outside the table");
     assert_eq!(said(0, 0), "refusal 0: a number outside the table");
     let error: Box<dyn std::error::Error> = st_3d_distance(&[], &[]).unwrap_err().into();
     assert_eq!(
@@ -118,7 +119,7 @@ fn words_are_those_of_the_header() {
         .filter_map(|row| row.strip_prefix(" *")?.trim_start().split_once("  "))
         .filter_map(|(number, words)| Some((number.parse().ok()?, words)))
         .collect();
-    assert_eq!(table.len(), 19);
+    assert_eq!(table.len(), 22);
     for (place, (number, words)) in (1..).zip(table) {
         assert_eq!(number, place);
         assert_eq!(Refusal { number, side: 0 }.condition(), words);

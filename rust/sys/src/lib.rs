@@ -88,6 +88,24 @@ extern "C" {
     pub fn viskorrel_next_patch(blob: *const u8, length: usize, at: usize, left: usize) -> Pair;
     pub fn viskorrel_root_digits(s: f64) -> Root;
     pub fn viskorrel_join(a: *const u8, a_length: usize, b: *const u8, b_length: usize, output: *mut u8, output_length: usize) -> Pair;
+    pub fn viskorrel_job(
+        tape: *const u8,
+        tape_length: usize,
+        floats1: *mut f64,
+        floats1_length: usize,
+        table1: *mut u32,
+        table1_length: usize,
+        floats2: *mut f64,
+        floats2_length: usize,
+        table2: *mut u32,
+        table2_length: usize,
+        first: *mut u16,
+        first_length: usize,
+        second: *mut u16,
+        second_length: usize,
+        distances: *mut f64,
+        distances_length: usize,
+    ) -> Pair;
     pub fn viskorrel_3d_line_interpolate_point(
         blob: *const u8,
         length: usize,
