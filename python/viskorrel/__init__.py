@@ -8,6 +8,7 @@ A geometry is bytes (GeoPackage blob, WKB or EWKB) or shapely's. Bytes that can'
 """
 from . import batch
 from ._geometry import Blobs, srid, wkb
+from ._job import Hit, Tape, job
 from ._library import LibraryMissing, load
 from ._nearest import Nearest, nearest
 from ._operations import (
@@ -16,9 +17,9 @@ from ._operations import (
 from ._refusal import Refusal
 from ._root import RootAndDigits, root_digits
 
-__version__ = "0.6.0"
+__version__ = "0.7.0"
 
 __all__ = [
-    "Blobs", "LibraryMissing", "Nearest", "NoSurface", "Refusal", "RootAndDigits", "batch", "closest_point", "dfully_within", "distance", "dwithin",
-    "intersects", "join", "library_version", "line_interpolate_point", "load", "longest_line", "max_distance", "nearest", "patch", "patches",
+    "Blobs", "Hit", "LibraryMissing", "Nearest", "NoSurface", "Refusal", "RootAndDigits", "Tape", "batch", "closest_point", "dfully_within",
+    "distance", "dwithin", "intersects", "job", "join", "library_version", "line_interpolate_point", "load", "longest_line", "max_distance", "nearest", "patch", "patches",
     "read", "refusal", "root_digits", "shortest_line", "sizes", "srid", "wkb"]

@@ -46,6 +46,7 @@ class NearestArrays(ctypes.Structure):
 BLOB = [ctypes.c_char_p, size]  # the address of the bytes themselves; they are only read
 WORKSPACE = [address, size, address, size]
 OUTPUT = [address, size]
+LIST = [address, size]
 NUMBER = [ctypes.c_double]
 RULE = [ctypes.c_uint32]
 
@@ -63,6 +64,7 @@ FUNCTIONS = {
     "viskorrel_3d_line_interpolate_point": (Reply, BLOB + NUMBER + WORKSPACE + OUTPUT),
     "viskorrel_read": (Pair, BLOB + WORKSPACE),
     "viskorrel_join": (Pair, BLOB * 2 + OUTPUT),
+    "viskorrel_job": (Pair, BLOB + WORKSPACE * 2 + LIST * 3),
     "viskorrel_patch": (Pair, BLOB + [ctypes.c_uint64]),
     "viskorrel_patches": (Pair, BLOB),
     "viskorrel_next_patch": (Pair, BLOB + [size] * 2),

@@ -5,8 +5,8 @@ from ._library import library
 class Refusal(Exception):
     """Why a call was refused: a number of the table in include/viskorrel.h.
 
-    number   1 to 14, or 17 to 19
-    side     1 for the first blob or the only one, 2 for the second, 0 for neither
+    number   1 to 14, or 17 to 22
+    side     1 for the first blob or the only one, 2 for the second, 0 for neither; of a job's pair 1 for its first number, 2 for its second
     words    the condition, in words
     advice   what to do about it, or None
     element  its place in a batch, or None
