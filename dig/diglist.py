@@ -2,7 +2,7 @@
 import math
 import re
 
-from dig import matching, measure
+from dig import matching, measure, tapes
 from dig.measure import multipoint, told
 from dig.problems import Problems
 from viskorrel import Refusal, dwithin
@@ -42,17 +42,19 @@ class Group(Counted):
 
 class DigList(Counted):
     """In the order of the list. A dig is a group with a new dent; the others are quiet. `chainage`: whether there is a centreline;
-    `passages`: whether digs have one (dig/fixes.py)."""
+    `passages`: whether digs have one (dig/fixes.py). `tapes`: those that the dents were matched by."""
 
     def __init__(self, groups, chainage):
         self.dents = [dent for group in groups for dent in group.dents]
         self.digs, self.quiet = [group for group in groups if group.new], [group for group in groups if not group.new]
-        self.chainage, self.passages, self.warnings, self.stamp = chainage, False, [], None
+        self.chainage, self.passages, self.warnings, self.stamp, self.tapes = chainage, False, [], None, []
 
 
 def make(features, tolerance, chainage, measuring):
     """`features`: lists by role. `chainage`: of the centreline."""
-    dents = matched(features["dents"], features["struck"], tolerance, measuring)
+    by_jobs = measuring.jobs and measuring.rule == 1  # a job goes by rule 1
+    jobs = tapes.jobs(features["dents"], features["struck"], tolerance) if by_jobs else None
+    dents = matched(features["dents"], features["struck"], tolerance, measuring, jobs)
     repeated(dents)
     if chainage.there():
         along(dents, chainage, measuring)
@@ -60,14 +62,19 @@ def make(features, tolerance, chainage, measuring):
     widths(groups)
     groups.sort(key=place_in_list)
     listed = DigList(groups, chainage.there())
+    listed.tapes = [bytes(job.tape) for job in jobs or []]
     listed.warnings = warnings(listed, groups, features, chainage)
     return listed
 
 
-def matched(dents, struck, tolerance, measuring):
-    """Each dent's nearest struck-off dent; of several as near, the first by feature id."""
+def matched(dents, struck, tolerance, measuring, jobs):
+    """Each dent's nearest struck-off dent; of several as near, the first by feature id. With jobs or without, the list is the same."""
     listed = []
-    for dent, (at, least) in zip(dents, matching.nearest(dents, struck, "pairs", measuring)):
+    if jobs is None:
+        found = matching.nearest(dents, struck, "pairs", measuring)
+    else:
+        found = matching.nearest_by_jobs(dents, struck, "pairs", measuring, jobs)
+    for dent, (at, least) in zip(dents, found):
         if at is None:
             listed.append(Dent(dent, None, None, NEW))
         else:

@@ -35,6 +35,7 @@ Each dent group that has a NEW dent with the longest line from its dents to its 
   ./viskorrel FILE.gpkg [options]  prints the list of your file
   ./viskorrel join OUT.gpkg --base FILE.gpkg COPY.gpkg ...    joins copies of a file that were changed apart (join --help);
                                    two geometries are joined by viskorrel.join in Python, Viskorrel_Join in SQLite, viskorrel_join in C
+  ./viskorrel job TAPE ...         runs the tapes that --tape wrote, or others, and prints their hits (job --help)
 """
 END = """\
 Coordinates are in metres and have Z. Status 0: the whole list was printed, and every file written. Status 1: there are errors, on stderr;
@@ -53,7 +54,7 @@ def metres(word):
 def parser():
     options = argparse.ArgumentParser(
         prog="viskorrel", description=HELP, epilog=END, formatter_class=argparse.RawDescriptionHelpFormatter, allow_abbrev=False,
-        usage="./viskorrel demo [FOLDER] | FILE.gpkg [options] | join OUT.gpkg --base FILE.gpkg COPY.gpkg ...")
+        usage="./viskorrel demo [FOLDER] | FILE.gpkg [options] | join OUT.gpkg --base FILE.gpkg COPY.gpkg ... | job TAPE ...")
     options.add_argument("file", metavar="FILE.gpkg", help="a GeoPackage file, or the word demo")
     options.add_argument("folder", nargs="?", help=argparse.SUPPRESS)
     for role, names in ROLES.items():
@@ -68,6 +69,8 @@ def parser():
     options.add_argument("--metres", action="store_true", help="all tables are in metres of one system, whatever the file says of it")
     for form, use in FORMS.items():
         options.add_argument(f"--{form}", metavar="FILE", help=use)
+    options.add_argument("--tape", metavar="FILE", help="write the job that dents are matched by, to be run again: ./viskorrel job FILE")
+    options.add_argument("--single-calls", action="store_true", help=argparse.SUPPRESS)  # no jobs; the list is the same
     options.add_argument("--no-box-test", action="store_true", help=argparse.SUPPRESS)  # measures every pair; the list is the same
     usual = "installed one" if ready.INSTALLED else "one of the repository"
     options.add_argument("--library", metavar="PATH", help=f"{NAME}, or the folder that has it; default: {VARIABLE}, else the {usual}")
@@ -76,12 +79,15 @@ def parser():
 
 
 def main(words):
-    joining = words[:1] == ["join"]
+    other = words[0] if words[:1] in (["join"], ["job"]) else None
     signal.signal(signal.SIGTERM, stopped)  # so that what was begun is removed
     try:
-        if joining:
+        if other == "join":
             from dig import join  # what a run does not need is not loaded
             join.command(words[1:])
+        elif other == "job":
+            from dig import job
+            job.command(words[1:])
         else:
             command(words)
         return 0
@@ -94,7 +100,7 @@ def main(words):
         lines, told = [f"error: {line}" for line in lines], getattr(fault, "told", [])
     except KeyboardInterrupt as fault:
         lines, told, status = ["", "Stopped."], getattr(fault, "told", []), 130
-    print("\n".join(lines + told + ["Nothing joined." if joining else "No dig list."]), file=sys.stderr)
+    print("\n".join(lines + told + [{"join": "Nothing joined.", "job": "No hits."}.get(other, "No dig list.")]), file=sys.stderr)
     return status
 
 
@@ -108,6 +114,8 @@ def command(words):
         asked = options.parse_args(words)
         if asked.file != "demo" and asked.folder is not None:
             options.error("one file at a time")
+        if asked.tape and (asked.rule != 1 or asked.single_calls):
+            options.error("--tape: a job goes by rule 1")
     except SystemExit as end:
         if end.code:
             outdated(words)
@@ -115,7 +123,7 @@ def command(words):
     demo = asked.file == "demo"
     if demo:
         demo_paths(asked)
-    paths = [path for path in (getattr(asked, form) for form in FORMS) if path]
+    paths = [path for path in (getattr(asked, form) for form in FORMS) if path] + tape_paths(asked.tape)
     with Outputs(paths, [asked.file], lambda path: path == asked.gpkg and is_list(path)) as outputs:
         if demo:
             make_demo(asked)
@@ -133,6 +141,30 @@ def command(words):
         print(f"Written: {path}", file=sys.stderr)
 
 
+def tape_paths(path):
+    """The first tape of a list, and the others that an earlier run wrote beside it."""
+    paths = [path] if path else []
+    while paths and os.path.lexists(path) and os.path.lexists(numbered(path, len(paths) + 1)):
+        paths.append(numbered(path, len(paths) + 1))
+    return paths
+
+
+def write_tapes(path, tapes, outputs):
+    if not tapes:
+        raise Problems(f"{path}: there are too many pairs within reach of the tolerance to be written on tapes")
+    for number, tape in enumerate(tapes, 1):
+        at = numbered(path, number)
+        if at not in outputs.paths and os.path.lexists(at):
+            raise Problems(f"{at}: is there and is no tape of an earlier run: it is left alone")
+        outputs.bytes(at, tape)
+
+
+def numbered(path, number):
+    """dig.tape, dig-2.tape, dig-3.tape."""
+    start, end = os.path.splitext(path)
+    return path if number == 1 else f"{start}-{number}{end}"
+
+
 def is_list(path):
     from dig import layers
     return layers.is_ours(path)
@@ -141,10 +173,10 @@ def is_list(path):
 def outdated(words):
     """A command line at fault: what an earlier run wrote to its outputs is not left looking current."""
     scan = argparse.ArgumentParser(add_help=False, allow_abbrev=False)
-    for form in FORMS:
+    for form in (*FORMS, "tape"):
         scan.add_argument(f"--{form}", nargs="?")
     found = vars(scan.parse_known_args(words)[0])
-    outputs = Outputs([path for path in found.values() if path], [word for word in words if word not in found.values() and os.path.isfile(word)],
+    outputs = Outputs([path for path in found.values() if path] + tape_paths(found["tape"])[1:], [word for word in words if word not in found.values() and os.path.isfile(word)],
                       lambda path: path == found["gpkg"] and is_list(path))
     outputs.set_aside()
     for line in outputs.told():
@@ -207,7 +239,7 @@ def make(asked, package):
     chainage = Chainage(features["pipe"])
     if asked.pipe and not chainage.there():
         raise Problems(f"{tables['pipe']}: there is no line in it, so it is no centreline")
-    measuring = Measuring(asked.rule, not asked.no_box_test)
+    measuring = Measuring(asked.rule, not asked.no_box_test, not asked.single_calls)
     listed = diglist.make(features, asked.tolerance, chainage, measuring)
     if "fixes" in tables:
         fixes.pass_by(listed, tracked, measuring)
@@ -242,3 +274,5 @@ def write(asked, made, outputs):
     if asked.gpkg:
         from dig import layers
         outputs.add(asked.gpkg, lambda path: layers.write(path, made))
+    if asked.tape:
+        write_tapes(asked.tape, made.list.tapes, outputs)

@@ -4,14 +4,15 @@ import time
 from collections import namedtuple
 
 import viskorrel
+from dig import tapes
 from dig.measure import told
 from dig.problems import Problems
 
 WAIT = 0.3      # seconds between signs of progress on a terminal
 TOLD = 5.0      # and elsewhere
 
-# how least distances are measured: by which pair rule, and whether boxes may pass pairs over, which changes no list
-Measuring = namedtuple("Measuring", "rule box_test", defaults=[1, True])
+# how least distances are measured: by which pair rule, and whether boxes may pass pairs over, and jobs match dents, which changes no list
+Measuring = namedtuple("Measuring", "rule box_test jobs", defaults=[1, True, True])
 
 
 class Progress:
@@ -39,15 +40,47 @@ def nearest(ones, many, noun, measuring):
     """For each of `ones` the place in `many` of the nearest, the first of several as near, and the distance; (None, None) if `many` is empty."""
     if not many:
         return [(None, None)] * len(ones)
+    found = searched(ones, many, noun, measuring)
+    if found.faults:
+        raise faulty(ones, many, found.faults)
+    return list(zip(found.places, found.distances))
+
+
+def searched(ones, many, noun, measuring):
     progress = Progress(len(ones), len(many), noun)
     try:
-        found = viskorrel.nearest([one.blob for one in ones], [other.blob for other in many],
-                                  boxes=measuring.box_test, progress=progress.at, rule=measuring.rule)
+        return viskorrel.nearest([one.blob for one in ones], [other.blob for other in many],
+                                 boxes=measuring.box_test, progress=progress.at, rule=measuring.rule)
     finally:
         progress.end()
-    if found.faults:
-        raise Problems(*[f"{pair(ones[at], many[place])}: {words(fault)}" for at, (place, fault) in sorted(found.faults.items())])
-    return list(zip(found.places, found.distances))
+
+
+def faulty(ones, many, faults):
+    return Problems(*[f"{pair(ones[at], many[place])}: {words(fault)}" for at, (place, fault) in sorted(faults.items())])
+
+
+def nearest_by_jobs(ones, many, noun, measuring, made):
+    """The same as `nearest`, by jobs (dig/tapes.py) where there is a hit: the nearest of all is then the nearest of the hits. The others are
+    searched among all. A pair without a finite distance is no hit and no fault of a job; it is searched for where boxes do not rule it out."""
+    if not many:
+        return [(None, None)] * len(ones)
+    best = tapes.nearest(made)
+    found = [best.get(at, (None, None))[::-1] for at in range(len(ones))]
+    everywhere = [at for at, one in enumerate(ones) if at not in best or tapes.box_of(one) is None]
+    unboxed = [place for place, other in enumerate(many) if tapes.box_of(other) is None]
+    faults = {}
+    for these, places in ((everywhere, range(len(many))), (sorted(set(range(len(ones))) - set(everywhere)), unboxed)):
+        if not these or not places:
+            continue
+        answers = searched([ones[at] for at in these], [many[place] for place in places], noun, measuring)
+        for element, (place, fault) in answers.faults.items():
+            faults[these[element]] = places[place], fault
+        if places is not unboxed:
+            for at, place, distance in zip(these, answers.places, answers.distances):
+                found[at] = place, distance
+    if faults:
+        raise faulty(ones, many, faults)
+    return found
 
 
 def pair(one, other):

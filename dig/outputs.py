@@ -73,6 +73,12 @@ class Outputs:
                 file.write(content)
         self.add(path, make)
 
+    def bytes(self, path, content):
+        def make(unfinished):
+            with open(unfinished, "wb") as file:
+                file.write(content)
+        self.add(path, make)
+
     def publish(self):
         for unfinished, path in self.ready:
             os.replace(unfinished, path)
