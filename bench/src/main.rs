@@ -5,6 +5,7 @@ mod digits;
 #[path = "../../compare/src/encode.rs"]
 mod encode;
 mod inputs;
+mod jobs;
 mod large;
 mod library;
 mod measure;
@@ -21,6 +22,7 @@ use std::path::Path;
 use std::process::ExitCode;
 
 use digits::Digits;
+use jobs::Job;
 use workload::Workload;
 
 const USAGE: &str = "bench compare ROUNDS NAME
@@ -28,27 +30,33 @@ bench ours ROUNDS NAME
 bench inputs FOLDER NAME";
 
 /// The workload of this name; where there is none, those whose name contains it.
-fn named(name: &str) -> (Vec<Workload>, Vec<Digits>) {
+fn named(name: &str) -> (Vec<Workload>, Vec<Digits>, Vec<Job>) {
     let name = name.to_lowercase();
-    let (mut pairs, mut roots) = (workload::all(), digits::all());
-    let exact = pairs.iter().any(|w| w.name.to_lowercase() == name) || roots.iter().any(|d| d.name == name);
+    let (mut pairs, mut roots, mut tapes) = (workload::all(), digits::all(), jobs::all());
+    let exact = pairs.iter().any(|w| w.name.to_lowercase() == name)
+        || roots.iter().any(|d| d.name == name)
+        || tapes.iter().any(|job| job.name == name);
     let wanted = |of: &str| if exact { of.to_lowercase() == name } else { of.to_lowercase().contains(&name) };
     pairs.retain(|w| wanted(&w.name));
     roots.retain(|d| wanted(d.name));
-    if pairs.is_empty() && roots.is_empty() {
+    tapes.retain(|job| wanted(&job.name));
+    if pairs.is_empty() && roots.is_empty() && tapes.is_empty() {
         eprintln!("no workload has a name with {name:?}");
         std::process::exit(2);
     }
-    (pairs, roots)
+    (pairs, roots, tapes)
 }
 
 /// Our side alone, nothing compared: for a profiler, and for other comparisons. Nanoseconds of a call, and the name.
-fn ours(workloads: &[Workload], digits: &[Digits], rounds: usize) {
+fn ours(workloads: &[Workload], digits: &[Digits], jobs: &[Job], rounds: usize) {
     for w in workloads {
         println!("{:.0}\t{}", measure::ours_alone(w, rounds) / w.calls() as f64, w.name);
     }
     for d in digits {
         println!("{:.1}\t{}", digits::ours_alone(d, rounds), d.name);
+    }
+    for job in jobs {
+        println!("{:.1}\t{}", jobs::ours_alone(job, rounds), job.name);
     }
 }
 
@@ -58,12 +66,12 @@ fn main() -> ExitCode {
     let rounds = |word: &str| word.parse::<usize>().expect("a number of rounds").max(1);
     let equal = match words[..] {
         ["compare", n, name] => {
-            let (pairs, roots) = named(name);
-            table::print(&pairs, &roots, rounds(n))
+            let (pairs, roots, tapes) = named(name);
+            table::print(&pairs, &roots, &tapes, rounds(n))
         }
         ["ours", n, name] => {
-            let (pairs, roots) = named(name);
-            ours(&pairs, &roots, rounds(n));
+            let (pairs, roots, tapes) = named(name);
+            ours(&pairs, &roots, &tapes, rounds(n));
             true
         }
         ["inputs", folder, name] => {

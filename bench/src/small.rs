@@ -110,6 +110,11 @@ fn pairs<'a>(drawn: impl Iterator<Item = &'a (usize, Geometry, Geometry)>) -> Rc
     Rc::new(drawn.map(|(_, a, b)| Pair { a: shapes::blob(a), b: shapes::blob(b) }).collect())
 }
 
+/// All pairs.
+pub fn whole() -> Rc<Vec<Pair>> {
+    pairs(draw_all().iter())
+}
+
 fn workload(name: String, table: Table, ops: Vec<Op>, pairs: &Rc<Vec<Pair>>) -> Workload {
     let (rule, target) = match table {
         Table::Rule2 => (2, Some(TARGET_BY_2)),

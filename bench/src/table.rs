@@ -1,6 +1,7 @@
 //! The results as Markdown tables.
 
 use crate::digits::{self, Digits};
+use crate::jobs::{self, Job};
 use crate::measure::{Rounds, Run, Times};
 use crate::workload::{Table, Workload};
 
@@ -52,6 +53,10 @@ impl<'a> Measured<'a> {
         Measured { name: d.name, calls: d.numbers.len(), target: d.target, times }
     }
 
+    fn of_job(job: &'a Job, times: Times) -> Measured<'a> {
+        Measured { name: &job.name, calls: job.matches(), target: job.target, times }
+    }
+
     fn meets(&self) -> Option<bool> {
         self.target.map(|target| self.times.ratio() <= target)
     }
@@ -94,7 +99,7 @@ fn head(title: &str, first: &str, unit: &str) {
 }
 
 /// Measures and prints every workload; whether all answers were equal.
-pub fn print(workloads: &[Workload], digits: &[Digits], rounds: usize) -> bool {
+pub fn print(workloads: &[Workload], digits: &[Digits], jobs: &[Job], rounds: usize) -> bool {
     let (mut all, mut equal) = (Vec::new(), true);
     for table in Table::ALL {
         let some: Vec<&Workload> = workloads.iter().filter(|w| w.table == table).collect();
@@ -111,6 +116,14 @@ pub fn print(workloads: &[Workload], digits: &[Digits], rounds: usize) -> bool {
         head("Roots digit by digit", "all 53 digits", "ns a call");
         for run in taken(digits.iter().map(digits::Run::new), rounds, &mut equal) {
             let measured = Measured::of_digits(run.digits, run.times());
+            println!("{}", measured.row(measured.calls as f64));
+            list.push(measured);
+        }
+    }
+    if !jobs.is_empty() {
+        head("Jobs, each match beside a single call", "single calls", "ns a match");
+        for run in taken(jobs.iter().map(jobs::Run::new), rounds, &mut equal) {
+            let measured = Measured::of_job(run.job, run.times());
             println!("{}", measured.row(measured.calls as f64));
             list.push(measured);
         }
