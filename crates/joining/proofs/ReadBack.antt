@@ -8,7 +8,7 @@ use native.Mathlib.Nat.{le-max-left, le-max-right}
 use native.Mathlib.Omega.{arith}
 use lib.Dec.{lit<}
 use lib.ListN.{length, getD, take, length-append, List·getD-append}
-use lib.Seq.{slice, length-slice, getD-take, getD-drop, getD-append-add}
+use lib.Seq.{slice, getD-take, getD-drop, getD-append-add}
 use borrow.Author.Tests.{ltb-false}
 use Rattle.refusals.specs.Checks.{firstOf}
 use Rattle.fields.specs.Fields.{u32At, bytesOfU32}
@@ -20,7 +20,7 @@ use Rattle.gpb.proofs.HeaderLaws.{Accepted, accepted-3d, accepted}
 use Rattle.gpb.proofs.ReadBack.{header-back}
 use Rattle.coords.specs.Walk.{Geometry, ok, walkOf, allLevels}
 use Rattle.coords.specs.Levels.{deepestLevel}
-use Rattle.coords.proofs.Ends.{walk-end}
+use Rattle.coords.proofs.Refusals.{accepted-gives-none}
 use Rattle.coords.proofs.Levels.{walk-with-levels}
 use Rattle.coords.proofs.Moves.{walk-moves}
 use Rattle.coords.proofs.Pairs.{pair-walk}
@@ -30,7 +30,7 @@ use Rattle.joining.specs.Joined.{ownBytes, joinedBlob, deepestOf, nestsT
 use Rattle.joining.specs.Promises.{collectionOf, ReadsAsBoth}
 use Rattle.joining.proofs.Size.{joined-size}
 use Rattle.joining.proofs.Order.{none-of-join, none-of-blobs, fits-where-none}
-use Rattle.joining.proofs.Own.{was-read}
+use Rattle.joining.proofs.Own.{was-read, lies}
 
 -- ---- a geometry's own bytes
 
@@ -40,10 +40,11 @@ module _ (s : List ℕ) (g : Geometry) (end : ℕ) (e : walkOfBlob s ≡ ok g en
   own-is = rw e
 
   own-length : geometryStart s + length (ownBytes s) ≡ end
+  unfolding walkEnd
   own-length =
-      let w = walk-end s allLevels (geometryStart s) g end e in
-      let l = ap length own-is ∙ length-slice (geometryStart s) end s (w .1) in
-      omega (arith, w .0, l)
+      let l = lies s (accepted-gives-none s (geometryStart s) g end e) in
+      let is : walkEnd (walkOfBlob s) ≡ end = ap walkEnd e in
+      omega (arith, l .forward, l .size, is)
 
   own-byte : (i : ℕ) → i < length (ownBytes s) → getD (ownBytes s) i 0 ≡ getD s (geometryStart s + i) 0
   own-byte i l =

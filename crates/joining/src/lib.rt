@@ -24,14 +24,16 @@ ghost use Rattle.blob.specs.Blob.{walkOfBlob};
 ghost use Rattle.blob.specs.Written.{WrittenOutcome};
 ghost use Rattle.blob.specs.declared.WrittenSize.the-variants.{Bytes};
 ghost use Rattle.operands.specs.Inner.{checkedBy, HeadersRead};
-ghost use Rattle.joining.specs.Joined.{joinedBlob, deepestOf, nestsTooDeep, bothChecks, togetherChecks, joinChecks};
+ghost use Rattle.joining.specs.Joined.{joinedBlob, deepestOf, nestsTooDeep};
+ghost use Rattle.joining.specs.Joined.{bothChecks, togetherChecks, joinChecks};
 ghost use Rattle.joining.specs.Inner.{BothRead};
 ghost use Rattle.joining.specs.Promises.{JoinReads, JoinMaxDistance};
 
 // The bytes before both geometries: the header, the collection's type and its count.
 const JOIN_HEADER_BYTES: usize = 17;
 
-// Whether a geometry, which can be walked, has a level 32 of its own: as a member of a collection it would nest past it.
+// Whether a geometry, which can be walked, has a level 32 of its own: as a member of a collection it would nest past
+// it.
 fn reaches_last_level(s: &[u8], at: usize) -> bool
     requires { ⌜ at ≡ geometryStart (now s) ⌝ }
     requires { ⌜ firstOf (walkChecks (now s) (geometryStart (now s))) ≡ none ⌝ }
@@ -78,7 +80,8 @@ fn too_short(lent: usize, n1: usize, n2: usize) -> bool
 // 18, 19 and 16, in this order, once both blobs are in order by themselves.
 fn check_together(a: &[u8], b: &[u8], o: Operands, lent: usize) -> Checked
     requires { ⌜ BothRead (now a) (now b) o ⌝ }
-    ensures { λ r. ⌜ r ≡ checkedBy (firstOf (togetherChecks (now (a .entry)) (now (b .entry)) lent)) (now (a .entry)) (now (b .entry)) ⌝ }
+    ensures { λ r. ⌜ r ≡ checkedBy (firstOf (togetherChecks (now (a .entry)) (now (b .entry)) lent))
+        (now (a .entry)) (now (b .entry)) ⌝ }
 {
     let first = o.first;
     let second = o.second;
@@ -108,7 +111,8 @@ fn check_together(a: &[u8], b: &[u8], o: Operands, lent: usize) -> Checked
 // The walks of both sides, once both headers are read.
 fn check_walks(a: &[u8], b: &[u8], top1: TopHeader, top2: TopHeader) -> Checked
     requires { ⌜ HeadersRead (now a) (now b) top1 top2 ⌝ }
-    ensures { λ r. ⌜ r ≡ checkedBy (firstOf (bothChecks (now (a .entry)) (now (b .entry)))) (now (a .entry)) (now (b .entry)) ⌝ }
+    ensures { λ r. ⌜ r ≡ checkedBy (firstOf (bothChecks (now (a .entry)) (now (b .entry))))
+        (now (a .entry)) (now (b .entry)) ⌝ }
 {
     match blob::read_walk(a, top1, 1) {
         OperandRead::Refused(refusal) => Checked::Refused(refusal),
@@ -125,7 +129,8 @@ fn check_walks(a: &[u8], b: &[u8], top1: TopHeader, top2: TopHeader) -> Checked
 
 // Headers, then walks of both sides.
 fn check_both(a: &[u8], b: &[u8]) -> Checked
-    ensures { λ r. ⌜ r ≡ checkedBy (firstOf (bothChecks (now (a .entry)) (now (b .entry)))) (now (a .entry)) (now (b .entry)) ⌝ }
+    ensures { λ r. ⌜ r ≡ checkedBy (firstOf (bothChecks (now (a .entry)) (now (b .entry))))
+        (now (a .entry)) (now (b .entry)) ⌝ }
 {
     match blob::read_header_3d(a, 1) {
         HeaderRead::Refused(refusal) => Checked::Refused(refusal),
@@ -138,7 +143,8 @@ fn check_both(a: &[u8], b: &[u8]) -> Checked
 
 // Every check of a join; lent is the output's length.
 fn check(a: &[u8], b: &[u8], lent: usize) -> Checked
-    ensures { λ r. ⌜ r ≡ checkedBy (firstOf (joinChecks (now (a .entry)) (now (b .entry)) lent)) (now (a .entry)) (now (b .entry)) ⌝ }
+    ensures { λ r. ⌜ r ≡ checkedBy (firstOf (joinChecks (now (a .entry)) (now (b .entry)) lent))
+        (now (a .entry)) (now (b .entry)) ⌝ }
 {
     match check_both(a, b) {
         Checked::Refused(refusal) => Checked::Refused(refusal),
@@ -161,7 +167,8 @@ fn put_join(a: &[u8], b: &[u8], o: Operands, output: &mut [u8]) -> usize
     requires { ⌜ BothRead (now a) (now b) o ⌝ }
     requires { ⌜ length (joinedBlob (now a) (now b)) ≤ length (now output) ⌝ }
     ensures { λ r. ⌜ r ≡ length (joinedBlob (now (a .entry)) (now (b .entry))) ⌝ }
-    ensures { λ _. ⌜ now (output .exit) ≡ joinedBlob (now (a .entry)) (now (b .entry)) ++ drop (length (joinedBlob (now (a .entry)) (now (b .entry)))) (now (output .entry)) ⌝ }
+    ensures { λ _. ⌜ now (output .exit) ≡ joinedBlob (now (a .entry)) (now (b .entry))
+        ++ drop (length (joinedBlob (now (a .entry)) (now (b .entry)))) (now (output .entry)) ⌝ }
 {
     let first = o.first;
     let second = o.second;
@@ -175,10 +182,12 @@ fn put_join(a: &[u8], b: &[u8], o: Operands, output: &mut [u8]) -> usize
 
 // Both geometries as one collection in the output: how many bytes it takes.
 pub fn join(a: &[u8], b: &[u8], output: &mut [u8]) -> WrittenSize
-    ensures whole_outcome { λ r. ⌜ WrittenOutcome (firstOf (joinChecks (now (a .entry)) (now (b .entry)) (length (now (output .entry)))))
+    ensures whole_outcome { λ r. ⌜ WrittenOutcome
+        (firstOf (joinChecks (now (a .entry)) (now (b .entry)) (length (now (output .entry)))))
         (joinedBlob (now (a .entry)) (now (b .entry))) (now (output .entry)) (now (output .exit)) r ⌝ }
     ensures reads_as_both { λ r. ⌜ JoinReads Bytes (now (a .entry)) (now (b .entry)) r (now (output .exit)) ⌝ }
-    ensures max_distance_of_both { λ r. ⌜ JoinMaxDistance Bytes (now (a .entry)) (now (b .entry)) r (now (output .exit)) ⌝ }
+    ensures max_distance_of_both { λ r. ⌜ JoinMaxDistance Bytes (now (a .entry)) (now (b .entry)) r
+        (now (output .exit)) ⌝ }
 {
     match check(a, b, output.len()) {
         Checked::Refused(refusal) => WrittenSize::Refused(refusal),
