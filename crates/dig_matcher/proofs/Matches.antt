@@ -61,6 +61,15 @@ matched-is w job i k (some a) (some b) = checked-is job i k (firstOf (toleranceC
 matched-is w job i k (some a) none = refl
 matched-is w job i k none y = refl
 
+-- a distance is a hit exactly where it is at most the limit
+pub within-limit : (d limit : Float) → le d limit ≡ true → matched-case.Hit d ≡ reportedMatch limit (answering (number d))
+unfolding reportedMatch
+within-limit d limit e = rw e
+
+pub beyond-limit : (d limit : Float) → le d limit ≡ false → matched-case.NoHit ≡ reportedMatch limit (answering (number d))
+unfolding reportedMatch
+beyond-limit d limit e = rw e
+
 -- of the workspaces only the lengths matter
 pub same-match : (w v : Workspaces) → SameLengths w v → (limit : Float) (x y : Option (List ℕ)) → matchOf w limit x y ≡ matchOf v limit x y
 unfolding matchOf

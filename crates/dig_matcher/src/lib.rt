@@ -1,5 +1,5 @@
-// A dig matcher: a job is a tape of commands, which load blobs, set a tolerance and match blobs by their 3D distance, and
-// its answer is a list of hits (document 02, 5/13). It knows the measuring crates by their contracts only.
+// A dig matcher: a job is a tape of commands, which load blobs, set a tolerance and match blobs by their 3D distance,
+// and its answer is a list of hits (document 02, 5/13). It knows the measuring crates by their contracts only.
 // Undecided in its contracts are the order of the hits and what a job leaves in the workspaces, refused or not.
 //
 // 1. `tape`: the commands, read one by one from the tape's bytes.
@@ -23,7 +23,8 @@ ghost use Rattle.outcomes.specs.Answers.{answerReport};
 ghost use Rattle.outcomes.specs.Lent.{lent};
 ghost use Rattle.outcomes.specs.Operations.{noSide};
 ghost use Rattle.dig_matcher.specs.Job.{going, stopped, startOfJob, hitLists, JobOutcome};
-ghost use Rattle.dig_matcher.specs.Inner.{blobAt, HasBlob, blobIf, reportedMatch, matchOf, runFrom, passedOf, placed, withHit, PassOutcome};
+ghost use Rattle.dig_matcher.specs.Inner.{blobAt, HasBlob, blobIf, reportedMatch, matchOf};
+ghost use Rattle.dig_matcher.specs.Inner.{runFrom, passedOf, placed, withHit, PassOutcome};
 
 // The number of hits, or a refusal.
 pub enum JobAnswer {
@@ -104,7 +105,8 @@ fn match_pair(
 ) -> Matched
     requires { ⌜ (a ≡ 0) ⊎ HasBlob (now tape) a ⌝ }
     requires { ⌜ (b ≡ 0) ⊎ HasBlob (now tape) b ⌝ }
-    ensures { λ r. ⌜ r ≡ matchOf (lent floats1 table1 floats2 table2) limit (blobIf (now (tape .entry)) a) (blobIf (now (tape .entry)) b) ⌝ }
+    ensures { λ r. ⌜ r ≡ matchOf (lent floats1 table1 floats2 table2) limit
+        (blobIf (now (tape .entry)) a) (blobIf (now (tape .entry)) b) ⌝ }
 {
     let missing = is_missing(a, b);
     let below = limit < 0.0;

@@ -78,11 +78,13 @@ fn read_pair(tape: &[u8], at: usize) -> Step
     }
 }
 
-// The command at a place of the tape.
+// The command at a place of the tape; past its end there is none.
 pub fn read_command(tape: &[u8], at: usize) -> Step
-    requires { ⌜ at < length (now tape) ⌝ }
     ensures { λ r. ⌜ StepAt (now (tape .entry)) at r ⌝ }
 {
+    if tape.len() <= at {
+        return Step::Broken; // the tape ends before 04
+    }
     let command = tape[at];
     match command {
         1 => read_load(tape, at),
