@@ -25,8 +25,8 @@ ghost use Rattle.outcomes.specs.Inner.{PairSwept};
 ghost use Rattle.outcomes.specs.ThirdProperty.{ShortestOfPoints};
 ghost use Rattle.reading.specs.Inner.{firstByRule};
 
-// The closest pair of what two workspaces hold, by a rule: where no side has a face rule 2 is rule 1, whose sweep is the
-// faster one. It is called from this place alone, so that the compiler puts it here.
+// The closest pair of what two workspaces hold, by a rule: where no side has a face rule 2 is rule 1, whose sweep is
+// the faster one. It is called from this place alone, so that the compiler puts it here.
 fn sweep(
     rule: u32,
     floats1: &[f64],

@@ -315,13 +315,14 @@ pub extern "C" fn viskorrel_join(a: &[u8], b: &[u8], output: &mut [u8]) -> PairR
         ≡ sizeReturned (firstOf (joinChecks (now (a .entry)) (now (b .entry)) (length (now (output .entry)))))
         (joinedBlob (now (a .entry)) (now (b .entry))) (now (output .entry)) ⌝ }
     ensures reads_as_both { λ r. ⌜ JoinReads replySize (now (a .entry)) (now (b .entry)) r (now (output .exit)) ⌝ }
-    ensures max_distance_of_both { λ r. ⌜ JoinMaxDistance replySize (now (a .entry)) (now (b .entry)) r (now (output .exit)) ⌝ }
+    ensures max_distance_of_both { λ r. ⌜ JoinMaxDistance replySize (now (a .entry)) (now (b .entry)) r
+        (now (output .exit)) ⌝ }
 {
     replies::reply_to_size(joining::join(a, b, output))
 }
 
-// A job: the number of its hits, which are in the first places of the three lists, in an order that is left open. What it
-// leaves in the workspaces is open too.
+// A job: the number of its hits, which are in the first places of the three lists, in an order that is left open. What
+// it leaves in the workspaces is open too.
 #[no_mangle]
 pub extern "C" fn viskorrel_job(
     tape: &[u8],
@@ -380,7 +381,8 @@ pub extern "C" fn viskorrel_next_patch(blob: &[u8], at: usize, left: usize) -> P
     replies::reply_to_patch(next_of_cursor(blob, at, left as u64))
 }
 
-// The square root of a number, and the digits needed: the fewest of its leading binary digits whose square is the number.
+// The square root of a number, and the digits needed: the fewest of its leading binary digits whose square is the
+// number.
 #[no_mangle]
 pub extern "C" fn viskorrel_root_digits(s: f64) -> RootReply
     ensures { λ r. ⌜ (r .root ≡ rootOf s) × (r .digits ≡ digitsNeeded s) ⌝ }
