@@ -5,6 +5,8 @@
 // - At most 16 items (`with_list`): a row for each. Two items that follow each other in a run share candidates; what the pair before
 //   offered is not offered again (`known`, `follows`).
 // - More (`with_blocks`): a row for each block of items of a class. A block is skipped as one pair is; the others are walked (`with_span`).
+#![tactic(auto)]
+
 ghost use Rattle.std.specs.Prelude.{◌≡◌, true, false, ◌&&◌, cond, ℕ, ◌+◌, ◌*◌, ◌<◌, ◌≤◌, length, get_or, take};
 ghost use Rattle.primitives.specs.Boxes.{least_squared_gap};
 ghost use Rattle.parts.specs.Stored.{stored_runs};
@@ -29,7 +31,7 @@ use listing::Place;
 use primitives::Aabb;
 
 // What the items of a class of A are swept against: the index of B has so many rows, of so many items each, and all is the box of B's items.
-#[derive(Drop)]
+#[derive(Clone, Copy)]
 pub struct Sweep {
     pub class: Class,
     pub stop: bool,

@@ -15,13 +15,13 @@ use Rattle.workspace.specs.Workspace.{too_small}
 use Rattle.blob.specs.Blob.{walk_of_blob, runs_of_blob, bytes_checks, blob_checks}
 use Rattle.blob.specs.Inner.{operand_by}
 use Rattle.blob.specs.declared.OperandRead.{OperandRead}
-use Rattle.blob.specs.declared.OperandRead.TheVariants as Operand-read
+use Rattle.blob.specs.declared.OperandRead.TheVariants as operand_read
 use Rattle.blob.proofs.Steps.{Given}
 
 -- ---- the bytes' checks
 
 -- the header refuses
-pub by_header : (s : List ℕ) (r : Refusal) → Given (first_of (header_checks s)) 1 r → Operand-read.Refused r ≡ operand_by (first_of (bytes_checks s)) 1 s
+pub by_header : (s : List ℕ) (r : Refusal) → Given (first_of (header_checks s)) 1 r → operand_read.Refused r ≡ operand_by (first_of (bytes_checks s)) 1 s
 unfolding bytes_checks operand_by
 by_header s r g = rw (g.is, first_keeps (header_checks s) (walk_checks s (geometry_start s)) g.number g.holds)
 

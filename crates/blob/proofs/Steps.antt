@@ -7,7 +7,7 @@ use Prim.Native.Nat.{ℕ}
 use native.Mathlib.Omega.{arith}
 use Rattle.refusals.specs.Checks.{first_of}
 use Rattle.refusals.specs.declared.Refusal.{Refusal}
-use Rattle.gpb.specs.Header.{geometry_start, top_type, srid_of, refused_or}
+use Rattle.gpb.specs.Header.{geometry_start, srid_of, refused_or}
 use Rattle.gpb.specs.declared.Header.{Header}
 use Rattle.gpb.specs.declared.Header.TheVariants as header
 use Rattle.coords.specs.Walk.{walk_of, all_levels}
@@ -24,7 +24,7 @@ use Rattle.blob.specs.declared.HeaderRead.{HeaderRead}
 use Rattle.blob.specs.declared.HeaderRead.TheVariants as header_read
 use Rattle.blob.specs.declared.Operand.{Operand}
 use Rattle.blob.specs.declared.OperandRead.{OperandRead}
-use Rattle.blob.specs.declared.OperandRead.TheVariants as Operand-read
+use Rattle.blob.specs.declared.OperandRead.TheVariants as operand_read
 use Rattle.blob.specs.declared.RoomChecked.{RoomChecked}
 use Rattle.blob.specs.declared.RoomChecked.TheVariants as room-checked
 
@@ -56,19 +56,19 @@ module _ (s : List ℕ) (side : ℕ) (x : Option ℕ) (o : HeaderRead) (p : o �
 
 -- the walk's
 module _ (s : List ℕ) (side : ℕ) (x : Option ℕ) (o : OperandRead) (p : o ≡ operand_by x side s) where
-  pub operand_refused : (r : Refusal) → o ≡ Operand-read.Refused r → Given x side r
+  pub operand_refused : (r : Refusal) → o ≡ operand_read.Refused r → Given x side r
   unfolding operand_by
   operand_refused r q = go x (sym p ∙ q)
     where
-      go : (y : Option ℕ) → operand_by y side s ≡ Operand-read.Refused r → Given y side r
+      go : (y : Option ℕ) → operand_by y side s ≡ operand_read.Refused r → Given y side r
       go (some k) e = record { number = k; holds = refl; is = cc }
       go none e = let z : ◌≡◌ {A = ℕ} 0 1 = cc in absurd (omega arith)
 
-  pub operand_is : (v : Operand) → o ≡ Operand-read.Read v → (x ≡ none) × (v ≡ operand_of s)
+  pub operand_is : (v : Operand) → o ≡ operand_read.Read v → (x ≡ none) × (v ≡ operand_of s)
   unfolding operand_by
   operand_is v q = go x (sym p ∙ q)
     where
-      go : (y : Option ℕ) → operand_by y side s ≡ Operand-read.Read v → (y ≡ none) × (v ≡ operand_of s)
+      go : (y : Option ℕ) → operand_by y side s ≡ operand_read.Read v → (y ≡ none) × (v ≡ operand_of s)
       go (some k) e = let z : ◌≡◌ {A = ℕ} 0 1 = cc in absurd (omega arith)
       go none e = (refl, cc)
 
@@ -115,11 +115,11 @@ module _ (s : List ℕ) (side : ℕ) (top : TopHeader) (starts : top ≡ top_hea
   walked : o ≡ counts_of (walk_of_blob s)
   walked = p ∙ ap (λ (t : TopHeader). counts_of (walk_of all_levels s t.at)) starts
 
-  pub walk_refused : (k : ℕ) → o ≡ counts.Refused k → Operand-read.Refused (refusal_of side k) ≡ operand_by (first_of (walk_checks s (geometry_start s))) side s
+  pub walk_refused : (k : ℕ) → o ≡ counts.Refused k → operand_read.Refused (refusal_of side k) ≡ operand_by (first_of (walk_checks s (geometry_start s))) side s
   unfolding operand_by
   walk_refused k q = rw (refused_is_given s (geometry_start s) k (counted_refused (walk_of_blob s) k o walked q))
 
-  pub walk_read : (coords runs others end : ℕ) → o ≡ counts.Accepted coords runs others end → Operand-read.Read (record { at = top.at; end = end; coords = coords; runs = runs; others = others; srid = top.srid }) ≡ operand_by (first_of (walk_checks s (geometry_start s))) side s
+  pub walk_read : (coords runs others end : ℕ) → o ≡ counts.Accepted coords runs others end → operand_read.Read (record { at = top.at; end = end; coords = coords; runs = runs; others = others; srid = top.srid }) ≡ operand_by (first_of (walk_checks s (geometry_start s))) side s
   unfolding operand_by walk_end
   walk_read coords runs others end q =
       let c = counted_accepted (walk_of_blob s) coords runs others end o walked q in

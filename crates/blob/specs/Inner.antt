@@ -10,7 +10,7 @@ use Rattle.blob.specs.declared.HeaderRead.{HeaderRead}
 use Rattle.blob.specs.declared.HeaderRead.TheVariants as header_read
 use Rattle.blob.specs.declared.Operand.{Operand}
 use Rattle.blob.specs.declared.OperandRead.{OperandRead}
-use Rattle.blob.specs.declared.OperandRead.TheVariants as Operand-read
+use Rattle.blob.specs.declared.OperandRead.TheVariants as operand_read
 use Rattle.blob.specs.declared.RoomChecked.{RoomChecked}
 use Rattle.blob.specs.declared.RoomChecked.TheVariants as room-checked
 
@@ -43,8 +43,8 @@ operand_of s =
 
 -- by the first check that holds: the walk's, after the header's where they are looked at too
 unfoldable pub operand_by : Option ℕ → ℕ → List ℕ → OperandRead
-operand_by (some k) side s = Operand-read.Refused (refusal_of side k)
-operand_by none side s = Operand-read.Read (operand_of s)
+operand_by (some k) side s = operand_read.Refused (refusal_of side k)
+operand_by none side s = operand_read.Read (operand_of s)
 
 -- ---- the room
 

@@ -1,5 +1,7 @@
 // One blob: its header, its walk and the room lent for it, checked each for itself, by side; and the blob read whole.
 // Undecided in its contracts is only the payload, sign included, of a NaN in the workspace.
+#![tactic(auto)]
+
 ghost use Rattle.std.specs.Prelude.{◌≡◌};
 ghost use Rattle.refusals.specs.Checks.{first_of};
 ghost use Rattle.gpb.specs.Header.{geometry_start, header_checks, header_checks_3d};
@@ -14,14 +16,14 @@ use refusals::Refusal;
 use workspace::{FLOATS_PER_COORDINATE, NUMBERS_PER_RUN};
 
 // Where a blob's geometry starts, and the SRID's bits.
-#[derive(Drop)]
+#[derive(Clone, Copy)]
 pub struct TopHeader {
     pub at: usize,
     pub srid: u32,
 }
 
 // What a header says, or its refusal.
-#[derive(Drop)]
+#[derive(Clone, Copy)]
 pub enum HeaderRead {
     Found(TopHeader),
     Refused(Refusal),
@@ -29,7 +31,7 @@ pub enum HeaderRead {
 
 // Where a blob's geometry starts and ends, its coordinates and runs, those of them that are points or faces, and the
 // SRID's bits.
-#[derive(Drop)]
+#[derive(Clone, Copy)]
 pub struct Operand {
     pub at: usize,
     pub end: usize,
@@ -40,42 +42,42 @@ pub struct Operand {
 }
 
 // A blob whose bytes are in order, or its refusal.
-#[derive(Drop)]
+#[derive(Clone, Copy)]
 pub enum OperandRead {
     Read(Operand),
     Refused(Refusal),
 }
 
 // The lengths of the memory lent for a blob.
-#[derive(Drop)]
+#[derive(Clone, Copy)]
 pub struct Lent {
     pub floats: usize,
     pub numbers: usize,
 }
 
 // Whether lent memory has room for a blob, or its refusal.
-#[derive(Drop)]
+#[derive(Clone, Copy)]
 pub enum RoomChecked {
     Enough,
     Refused(Refusal),
 }
 
 // The lengths to lend for a blob, or its refusal.
-#[derive(Drop)]
+#[derive(Clone, Copy)]
 pub enum Sizes {
     Lend { floats: usize, numbers: usize },
     Refused(Refusal),
 }
 
 // The bytes of a blob that was written into lent output, or a refusal.
-#[derive(Drop)]
+#[derive(Clone, Copy)]
 pub enum WrittenSize {
     Bytes(usize),
     Refused(Refusal),
 }
 
 // Coordinates, runs and the SRID's bits of a blob that was read, or its refusal.
-#[derive(Drop)]
+#[derive(Clone, Copy)]
 pub enum BlobRead {
     Read {
         coords: usize,

@@ -16,7 +16,7 @@ use Rattle.primitives.specs.Boxes.{least_squared_gap}
 use Rattle.extremes.proofs.Lists as lists
 use Rattle.extremes.proofs.Lists.{Each}
 use Rattle.extremes.proofs.BoxOfAll.{Fitting}
-use Rattle.items.specs.Items.{Item, itemsOfKind, box_of_item}
+use Rattle.items.specs.Items.{Item, items_of_kind, box_of_item}
 use Rattle.items.specs.Inner.{is_of_class, items_by, class_items}
 use Rattle.items.specs.declared.Class.{Class}
 use Rattle.listing.specs.declared.Place.{Place}
@@ -25,7 +25,7 @@ use Rattle.items.specs.Closest.{with_each}
 use Rattle.extremes.specs.ClosestSweep.{no_closer}
 use Rattle.blocks.specs.Cover.{cover_of_items}
 use Rattle.blocks.specs.Spans.{items_past, items_from}
-use Rattle.blocks.specs.Blocks.{blockItems, blocks_from}
+use Rattle.blocks.specs.Blocks.{block_items, blocks_from}
 use Rattle.blocks.proofs.Covering.{items_fitting, items_covered, block_skipped}
 use Rattle.blocks.proofs.ItemBoxes.{run_fitting, stored_binary64}
 
@@ -37,7 +37,7 @@ module _ (size : ℕ) (table : List ℕ) (floats : List Float) where
         let e : n - 0 ≡ n = omega arith in
         rw e
 
-    pub blocks_next : (k n : ℕ) → k < n → blocks_from size table floats places k (n - k) ≡ blockItems size table floats places k ++ blocks_from size table floats places (k + 1) (n - (k + 1))
+    pub blocks_next : (k n : ℕ) → k < n → blocks_from size table floats places k (n - k) ≡ block_items size table floats places k ++ blocks_from size table floats places (k + 1) (n - (k + 1))
     unfolding blocks_from
     blocks_next k n h =
         let e : n - k ≡ suc (n - (k + 1)) = omega arith in
@@ -50,21 +50,21 @@ module _ (size : ℕ) (table : List ℕ) (floats : List Float) where
         rw e
 
     -- one more at the end
-    pub blocks_more : (n k : ℕ) → blocks_from size table floats places k (suc n) ≡ blocks_from size table floats places k n ++ blockItems size table floats places (k + n)
+    pub blocks_more : (n k : ℕ) → blocks_from size table floats places k (suc n) ≡ blocks_from size table floats places k n ++ block_items size table floats places (k + n)
     unfolding blocks_from
     blocks_more zero k =
         let e : k + 0 ≡ k = omega arith in
         rw (e, append-nil)
     blocks_more (suc n) k =
         let e : k + suc n ≡ k + 1 + n = omega arith in
-        rw e (ap (λ (l : List Item). blockItems size table floats places k ++ l) (blocks_more n (k + 1)) ∙ sym (append_assoc (blockItems size table floats places k) _ _))
+        rw e (ap (λ (l : List Item). block_items size table floats places k ++ l) (blocks_more n (k + 1)) ∙ sym (append_assoc (block_items size table floats places k) _ _))
 
   -- the same places give the same items
   pub blocks_same : (places places' : List ℕ) (n k : ℕ) → ((m : ℕ) → m < k + n → place_at places' m ≡ place_at places m) → blocks_from size table floats places' k n ≡ blocks_from size table floats places k n
   unfolding blocks_from
   blocks_same places places' zero k same = refl
   blocks_same places places' (suc n) k same =
-      rw (same k (omega arith)) (ap (λ (l : List Item). blockItems size table floats places k ++ l) (blocks_same places places' n (k + 1) (λ m h. same m (omega arith))))
+      rw (same k (omega arith)) (ap (λ (l : List Item). block_items size table floats places k ++ l) (blocks_same places places' n (k + 1) (λ m h. same m (omega arith))))
 
 -- ---- the boxes of the items from a place on, where each float is of binary64
 abbrev BoxFits : Item → Type 0
@@ -76,7 +76,7 @@ module _ (floats : List Float) (f : (i : ℕ) → T (fits binary64 (get_or float
   chosen_fit false l e = tt
 
   items_fit : (class : Class) (at : ℕ) (table : List ℕ) → Each BoxFits (class_items class (runs_from floats at table))
-  unfolding runs_from itemsOfKind
+  unfolding runs_from items_of_kind
   items_fit class at [] = tt
   items_fit class at (kind ∷ []) = tt
   items_fit class at (kind ∷ count ∷ table) =

@@ -11,7 +11,7 @@ use lib.Ieee.{Float}
 use Rattle.workspace.specs.Workspace.{numbers_per_run}
 use Rattle.parts.specs.Stored.{points_from, runs_from, stored_runs, run_count, kind_at, count_at, point_count}
 use Rattle.parts.proofs.Turns.{table_next, runs_next}
-use Rattle.items.specs.Items.{Item, itemsOfKind}
+use Rattle.items.specs.Items.{Item, items_of_kind}
 use Rattle.items.specs.Inner.{is_of_class, items_by, class_items, item_count, item_at}
 use Rattle.items.specs.declared.Class.{Class}
 use Rattle.items.proofs.Turns.{items_left, left_start, left_none, turn_item, no_items}
@@ -59,7 +59,7 @@ module _ (class : Class) (table : List ℕ) (floats : List Float) (r at : ℕ) (
   later = class_items class (runs_from floats (at + count_at table r) (drop (numbers_per_run * (r + 1)) table))
 
   items_split : class_items class (runs_from floats at (drop (numbers_per_run * r) table)) ≡ here (is_of_class class (kind_at table r)) ++ later
-  unfolding itemsOfKind
+  unfolding items_of_kind
   items_split = rw (runs_next table r h floats at)
 
   -- the next item is the j-th of run r
@@ -125,7 +125,7 @@ module _ (class : Class) (table : List ℕ) (floats : List Float) (r at j left :
 
 -- ---- how many items of a class there are
 total_is : (class : Class) (floats : List Float) (at : ℕ) (table : List ℕ) → length (class_items class (runs_from floats at table)) ≡ item_total class table
-unfolding runs_from itemsOfKind item_total
+unfolding runs_from items_of_kind item_total
 total_is class floats at [] = refl
 total_is class floats at (kind ∷ []) = refl
 total_is class floats at (kind ∷ count ∷ table) =

@@ -15,18 +15,18 @@ block_count size total = cond (eqb total 0) 0 ((total - 1) / size + 1)
 
 module _ (size : ℕ) (table : List ℕ) (floats : List Float) where
   -- the items of block k: so many of the class from its place on, or all that are left
-  abbrev pub blockItems : List ℕ → ℕ → List Item
-  blockItems places k = take size (items_from table floats (place_at places k))
+  abbrev pub block_items : List ℕ → ℕ → List Item
+  block_items places k = take size (items_from table floats (place_at places k))
 
   -- the items of n blocks from the k-th on
   unfoldable pub blocks_from : List ℕ → ℕ → ℕ → List Item
   blocks_from places k zero = []
-  blocks_from places k (suc n) = blockItems places k ++ blocks_from places (k + 1) n
+  blocks_from places k (suc n) = block_items places k ++ blocks_from places (k + 1) n
 
   -- the place of block k lies within the floats, and the box covers the block's items
   pub record Block (boxes : List Float) (places : List ℕ) (k : ℕ) : Type 0 where
     pub room : RoomPast table floats (place_at places k).r (place_at places k).at
-    pub cover : box_at boxes k ≡ cover_of_items (blockItems places k)
+    pub cover : box_at boxes k ≡ cover_of_items (block_items places k)
 
   -- the first n rows are blocks, and their items are those items
   pub record Rows (n : ℕ) (is : List Item) (boxes : List Float) (places : List ℕ) : Type 0 where

@@ -1,5 +1,7 @@
 // Many items in blocks: each class of a side is cut into blocks of `size` items, in order (the last of a class may have fewer), and a box
 // is kept that covers each block. A block is told by the place from which its items are counted (`items_from`); a listed item is as a block of one.
+#![tactic(auto)]
+
 ghost use Rattle.std.specs.Prelude.{◌≡◌, ◌+◌, ◌*◌, ◌<◌, ◌≤◌, length};
 ghost use Rattle.parts.specs.Stored.{stored_runs, run_count, Laid};
 ghost use Rattle.items.specs.Items.{items_of};
@@ -14,14 +16,14 @@ use listing::Place;
 use primitives::Aabb;
 
 // Where some items end, and a box that covers them.
-#[derive(Drop)]
+#[derive(Clone, Copy)]
 pub struct Span {
     pub next: Place,
     pub all: Aabb,
 }
 
 // How many rows of blocks there are, and how many items a block has, but for the last of a class.
-#[derive(Drop)]
+#[derive(Clone, Copy)]
 pub struct Index {
     pub rows: usize,
     pub size: usize,

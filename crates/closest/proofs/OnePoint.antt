@@ -15,7 +15,7 @@ use Rattle.primitives.specs.declared.Aabb.{Aabb}
 use Rattle.parts.specs.Stored.{stored_point, points_from, stored_runs, run_count, kind_at, count_at, Laid}
 use Rattle.parts.proofs.Turns.{runs_next, runs_none, count_next}
 use Rattle.primitives.specs.Boxes.{union_of}
-use Rattle.items.specs.Items.{Item, point, point_items, itemsOfKind, items_of, box_of_item, unite_item, box_of_items}
+use Rattle.items.specs.Items.{Item, point, point_items, items_of_kind, items_of, box_of_item, unite_item, box_of_items}
 use Rattle.extremes.specs.Sweeps.{skipping}
 use Rattle.items.specs.Closest.{with_each, sweep_of, closest_within, closest_of}
 use Rattle.extremes.specs.ClosestSweep.{no_closer}
@@ -44,7 +44,7 @@ module _ (table : List ℕ) (h : is_one_point table ≡ true) where
 
   -- its items
   pub one_item : (floats : List Float) → items_of (stored_runs table floats) ≡ point (stored_point floats 0) ∷ []
-  unfolding items_of itemsOfKind point_items
+  unfolding items_of items_of_kind point_items
   one_item floats = rw (one_stored floats)
 
   -- there is a float for each ordinate of it

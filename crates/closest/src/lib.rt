@@ -2,6 +2,8 @@
 // and when it ends is told in `against`. Where A is one point (`from_one_point`) each item of B is looked at once, so no box of it is kept,
 // and one point with one point needs no box at all. Else B has an index, made once: of single items where there are at most 16 (`listing`),
 // of blocks where there are more (`sweep_many`).
+#![tactic(auto)]
+
 ghost use Rattle.std.specs.Prelude.{◌≡◌, false, ◌+◌, ◌*◌, ◌<◌, ◌≤◌, length};
 ghost use Rattle.std.proofs.Math.Option.{none};
 ghost use Rattle.workspace.specs.Workspace.{floats_per_coordinate};
@@ -21,7 +23,7 @@ use listing::{Listing, Place};
 use primitives::Aabb;
 
 // The points of a run: n of them, which start at place at.
-#[derive(Drop)]
+#[derive(Clone, Copy)]
 pub struct RunPoints {
     pub at: usize,
     pub n: usize,

@@ -13,7 +13,7 @@ use Rattle.workspace.specs.Workspace.{numbers_per_run}
 use Rattle.parts.specs.Stored.{runs_from, stored_runs, run_count, kind_at, count_at}
 use Rattle.parts.proofs.Turns.{runs_next, runs_none}
 use Rattle.extremes.proofs.Lists.{Each}
-use Rattle.items.specs.Items.{triangle_items, itemsOfKind, items_of}
+use Rattle.items.specs.Items.{triangle_items, items_of_kind, items_of}
 use Rattle.items.specs.Closest.{closest_of}
 use Rattle.items.proofs.WithoutTriangles.{NoTriangle, no_triangle}
 use Rattle.crossings.specs.Closest.{closest_by_rule2}
@@ -45,8 +45,8 @@ no_face_next n table e f = rw (add-one, e, f)
 
 module _ (table : List ℕ) (floats : List Float) (faceless : has_face table ≡ false) where
   -- m runs are left
-  no_triangle_from : (m r at : ℕ) → r + m ≡ run_count table → itemsOfKind is_face triangle_items (runs_from floats at (drop (numbers_per_run * r) table)) ≡ []
-  unfolding itemsOfKind has_face
+  no_triangle_from : (m r at : ℕ) → r + m ≡ run_count table → items_of_kind is_face triangle_items (runs_from floats at (drop (numbers_per_run * r) table)) ≡ []
+  unfolding items_of_kind has_face
   no_triangle_from zero r at e = rw (runs_none floats at table r (omega arith))
   no_triangle_from (suc m) r at e =
       let h : r < run_count table = omega arith in

@@ -8,6 +8,8 @@
 //    offered, which document 01 has so. Any other pair offers its candidates by rule 2. On TINs the box of side 2's item costs most: made of
 //    the item, which is needed anyway if the pair is not skipped, it takes a quarter less than by `items::gap_to`.
 // 5. A best of NaN or 0 is never replaced: at NaN the rest is passed over, and at 0 where that is asked for.
+#![tactic(auto)]
+
 ghost use Rattle.std.specs.Prelude.{◌≡◌, ◌||◌, cond, ◌+◌, ◌*◌, ◌≤◌, length};
 ghost use Rattle.std.proofs.Math.Option.{none};
 ghost use Rattle.workspace.specs.Workspace.{floats_per_coordinate};
@@ -26,7 +28,7 @@ use items::{Class, Shape};
 use primitives::Aabb;
 
 // The place of a run: the class of its items, and its n points, which start at place at.
-#[derive(Drop)]
+#[derive(Clone, Copy)]
 pub struct RunPlace {
     pub class: Class,
     pub at: usize,
@@ -34,14 +36,14 @@ pub struct RunPlace {
 }
 
 // What the items of side 1 are swept against: the box of all items of side 2; whether the sweep stops at distance 0.
-#[derive(Drop)]
+#[derive(Clone, Copy)]
 pub struct Reach {
     pub all: Aabb,
     pub stop: bool,
 }
 
 // An item of side 1 with its box; whether the sweep stops at distance 0.
-#[derive(Drop)]
+#[derive(Clone, Copy)]
 pub struct Probe {
     pub item: Shape,
     pub around: Aabb,

@@ -12,11 +12,11 @@ use Rattle.fields.specs.Fields.{u32_at}
 use Rattle.coords.specs.declared.WkbHeader.{WkbHeader}
 use Rattle.coords.specs.declared.ParsedHeader.{ParsedHeader}
 use Rattle.coords.specs.declared.ParsedHeader.TheVariants as header
-use Rattle.coords.specs.Walk.{Coordinate, Geometry, Parsed, ok, refused, map_parsed, stride, coordinates_from, and_then, cons_parsed, times, list_at, GeometryClass, pointClass, lineClass, polygonClass, collectionClass, unknownClass, geometry_class_of, header_at, geometry_from, walk_of}
+use Rattle.coords.specs.Walk.{Coordinate, Geometry, Parsed, ok, refused, map_parsed, stride, coordinates_from, and_then, cons_parsed, times, list_at, GeometryClass, point_class, line_class, polygon_class, collection_class, unknown_class, geometry_class_of, header_at, geometry_from, walk_of}
 use Rattle.coords.specs.Parts.{Run, run, non_empty_run, runs_of}
 use Rattle.coords.specs.Inner.{ParsedRuns, coordinates_runs, line_runs, walk_runs}
 use Rattle.coords.proofs.Each.{Each, each_append}
-use Rattle.coords.proofs.Runs.{coordinates_runs_lem, line_runs_lem, rings_runs_lem, members_runs, content_runs_at, content_runs}
+use Rattle.coords.proofs.Runs.{coordinates_runs_lem, line_runs_lem, rings_runs_lem, members_runs_lem, content_runs_at, content_runs_lem}
 
 -- the kinds whose geometries have runs of their own
 abbrev pub RunKind : ℕ → Type 0
@@ -24,17 +24,17 @@ RunKind k = (k ≡ 1) ⊎ ((k ≡ 2) ⊎ ((k ≡ 3) ⊎ (k ≡ 17)))
 
 -- what a class says of the kind
 KindOf : GeometryClass → ℕ → Type 0
-KindOf pointClass k = RunKind k
-KindOf lineClass k = RunKind k
-KindOf polygonClass k = RunKind k
-KindOf collectionClass k = Unit
-KindOf unknownClass k = Unit
+KindOf point_class k = RunKind k
+KindOf line_class k = RunKind k
+KindOf polygon_class k = RunKind k
+KindOf collection_class k = Unit
+KindOf unknown_class k = Unit
 
 class_kind : (k : ℕ) → KindOf (geometry_class_of k) k
 unfolding geometry_class_of KindOf
 class_kind k = go (eqb k 1) (eqb k 2) (eqb k 3) (eqb k 17) ((leb 4 k && leb k 7) || (eqb k 15 || eqb k 16)) refl refl refl refl
   where
-    go : (a b c d e : Bool) → eqb k 1 ≡ a → eqb k 2 ≡ b → eqb k 3 ≡ c → eqb k 17 ≡ d → KindOf (cond a pointClass (cond b lineClass (cond (c || d) polygonClass (cond e collectionClass unknownClass)))) k
+    go : (a b c d e : Bool) → eqb k 1 ≡ a → eqb k 2 ≡ b → eqb k 3 ≡ c → eqb k 17 ≡ d → KindOf (cond a point_class (cond b line_class (cond (c || d) polygon_class (cond e collection_class unknown_class)))) k
     go true b c d e p q r t = inl (eqb-true k 1 p)
     go false true c d e p q r t = inr (inl (eqb-true k 2 q))
     go false false true d e p q r t = inr (inr (inl (eqb-true k 3 r)))
@@ -88,16 +88,16 @@ module _ (s : List ℕ) (P : Run Coordinate → Type 0) (one : (h : WkbHeader) (
 
   all_content : (c : GeometryClass) (levels : ℕ) (each : (at : ℕ) → AllRead (walk_runs levels s at)) (h : WkbHeader) → KindOf c h.kind → AllRead (content_runs_at c levels s h)
   unfolding content_runs_at AllRead KindOf
-  all_content pointClass levels each h k = all_coordinates h k 1 h.body
-  all_content lineClass levels each h k = all_line h k h.body
-  all_content polygonClass levels each h k = subst AllRead (sym (rings_runs_lem h s h.body)) (all_list (line_runs h s) (all_line h k) h.little h.body)
-  all_content collectionClass levels each h k = subst AllRead (sym (members_runs levels h.little s h.body)) (all_list (walk_runs levels s) each h.little h.body)
-  all_content unknownClass levels each h k = tt
+  all_content point_class levels each h k = all_coordinates h k 1 h.body
+  all_content line_class levels each h k = all_line h k h.body
+  all_content polygon_class levels each h k = subst AllRead (sym (rings_runs_lem h s h.body)) (all_list (line_runs h s) (all_line h k) h.little h.body)
+  all_content collection_class levels each h k = subst AllRead (sym (members_runs_lem levels h.little s h.body)) (all_list (walk_runs levels s) each h.little h.body)
+  all_content unknown_class levels each h k = tt
 
   all_from : (levels : ℕ) (each : (at : ℕ) → AllRead (walk_runs levels s at)) (r : ParsedHeader) → AllRead (map_parsed runs_of (geometry_from (walk_of levels s) s r))
   unfolding geometry_from AllRead map_parsed
   all_from levels each (header.Refused k) = tt
-  all_from levels each (header.Read h) = subst AllRead (sym (content_runs (geometry_class_of h.kind) levels s h)) (all_content (geometry_class_of h.kind) levels each h (class_kind h.kind))
+  all_from levels each (header.Read h) = subst AllRead (sym (content_runs_lem (geometry_class_of h.kind) levels s h)) (all_content (geometry_class_of h.kind) levels each h (class_kind h.kind))
 
   all_walk : (levels at : ℕ) → AllRead (walk_runs levels s at)
   unfolding walk_of AllRead map_parsed

@@ -13,7 +13,7 @@ use Rattle.coords.specs.declared.WkbHeader.{WkbHeader}
 use Rattle.coords.specs.declared.ParsedHeader.{ParsedHeader}
 use Rattle.coords.specs.declared.ParsedHeader.TheVariants as header
 use Rattle.fields.specs.TypeCode.{has_flag, srid_flag}
-use Rattle.coords.specs.Walk.{Geometry, geometry, Content, point, line, rings, members, no_members, one_more, Parsed, ok, refused, map_parsed, stride, coordinate_at, coordinates_from, point_at, coordinates_at, line_at, cons_parsed, and_then, times, list_at, rings_at, members_at, GeometryClass, pointClass, lineClass, polygonClass, collectionClass, unknownClass, geometry_class_of, content_of, wkb_header, header_of_type, header_at, geometry_from, walk_of}
+use Rattle.coords.specs.Walk.{Geometry, geometry, Content, point, line, rings, members, no_members, one_more, Parsed, ok, refused, map_parsed, stride, coordinate_at, coordinates_from, point_at, coordinates_at, line_at, cons_parsed, and_then, times, list_at, rings_at, members_at, GeometryClass, point_class, line_class, polygon_class, collection_class, unknown_class, geometry_class_of, content_of, wkb_header, header_of_type, header_at, geometry_from, walk_of}
 
 -- a header has at least five bytes
 unfoldable pub AfterFive : ℕ → ParsedHeader → Type 0
@@ -106,11 +106,11 @@ module _ (s : List ℕ) where
 
   content_after : (k : GeometryClass) (f : ℕ → Parsed Geometry) (each : (q : ℕ) → Within q (f q)) (h : WkbHeader) → Within (h.body + 4) (content_of k f s h)
   unfolding content_of Within
-  content_after pointClass f each h = map_within point (h.body + 4) (point_at h s h.body) (point_after h h.body)
-  content_after lineClass f each h = map_within line (h.body + 4) (line_at h s h.body) (line_after h h.body)
-  content_after polygonClass f each h = map_within rings (h.body + 4) (rings_at h s h.body) (list_after ◌∷◌ [] (line_at h s) (line_within h) h.little h.body)
-  content_after collectionClass f each h = map_within members (h.body + 4) (members_at f h.little s h.body) (list_after one_more no_members f each h.little h.body)
-  content_after unknownClass f each h = tt
+  content_after point_class f each h = map_within point (h.body + 4) (point_at h s h.body) (point_after h h.body)
+  content_after line_class f each h = map_within line (h.body + 4) (line_at h s h.body) (line_after h h.body)
+  content_after polygon_class f each h = map_within rings (h.body + 4) (rings_at h s h.body) (list_after ◌∷◌ [] (line_at h s) (line_within h) h.little h.body)
+  content_after collection_class f each h = map_within members (h.body + 4) (members_at f h.little s h.body) (list_after one_more no_members f each h.little h.body)
+  content_after unknown_class f each h = tt
 
   -- a geometry is at least its header and a count
   Ends : ℕ → Parsed Geometry → Type 0

@@ -2,16 +2,16 @@
 use mathlib.Core.Path.{◌≡◌, refl, sym, subst, ◌∙◌}
 use mathlib.Core.Bool.{Bool, true, false, cond, ◌||◌}
 use mathlib.Core.List.{List, [], ◌∷◌, ◌++◌}
-use Prim.Native.Nat.{ℕ, zero, suc, ◌+◌, ◌-◌, ◌*◌, ◌≤◌}
+use Prim.Native.Nat.{ℕ, zero, suc, ◌+◌, ◌*◌, ◌≤◌}
 use native.Mathlib.Omega.{arith}
 use lib.Dec.{ltb}
 use lib.ListN.{length}
 use Rattle.fields.specs.Fields.{u32_at}
-use Rattle.coords.specs.Walk.{Coordinate, Geometry, Parsed, ok, refused, map_parsed, and_then, stride_of, stride, times, list_at, GeometryClass, pointClass, lineClass, polygonClass, collectionClass, unknownClass, geometry_class_of, header_at, geometry_from, walk_of}
+use Rattle.coords.specs.Walk.{Coordinate, Geometry, Parsed, ok, refused, map_parsed, and_then, stride_of, stride, times, list_at, GeometryClass, point_class, line_class, polygon_class, collection_class, unknown_class, geometry_class_of, header_at, geometry_from, walk_of}
 use Rattle.coords.specs.Parts.{Run, coordinate_count, runs_of, walked_runs, run, is_point, is_face, other_count}
 use Rattle.coords.specs.Inner.{ParsedRuns, coordinates_runs, line_runs, walk_runs}
 use Rattle.coords.proofs.Ends.{AfterFive, header_after, walk_end_lem}
-use Rattle.coords.proofs.Runs.{line_runs_lem, coordinates_runs_lem, rings_runs_lem, members_runs, content_runs_at, content_runs}
+use Rattle.coords.proofs.Runs.{line_runs_lem, coordinates_runs_lem, rings_runs_lem, members_runs_lem, content_runs_at, content_runs_lem}
 use Rattle.coords.specs.Counts.{run_counts}
 use Rattle.coords.specs.declared.WkbHeader.{WkbHeader}
 use Rattle.coords.specs.declared.ParsedHeader.{ParsedHeader}
@@ -79,20 +79,20 @@ module _ (f : ℕ → ParsedRuns) (each : (at : ℕ) → Inside at (run_counts (
 
 inside_content : (c : GeometryClass) (levels : ℕ) (s : List ℕ) (each : (at : ℕ) → Inside at (run_counts (walk_runs levels s at))) (h : WkbHeader) → Inside h.body (run_counts (content_runs_at c levels s h))
 unfolding content_runs_at run_counts
-inside_content pointClass levels s each h = inside_run h s 1 h.body
-inside_content lineClass levels s each h = inside_line h s h.body
-inside_content polygonClass levels s each h =
+inside_content point_class levels s each h = inside_run h s 1 h.body
+inside_content line_class levels s each h = inside_line h s h.body
+inside_content polygon_class levels s each h =
     subst (λ (w : ParsedRuns). Inside h.body (run_counts w)) (sym (rings_runs_lem h s h.body)) (inside_list (line_runs h s) (inside_line h s) h.little s h.body)
-inside_content collectionClass levels s each h =
-    subst (λ (w : ParsedRuns). Inside h.body (run_counts w)) (sym (members_runs levels h.little s h.body)) (inside_list (walk_runs levels s) each h.little s h.body)
-inside_content unknownClass levels s each h = tt
+inside_content collection_class levels s each h =
+    subst (λ (w : ParsedRuns). Inside h.body (run_counts w)) (sym (members_runs_lem levels h.little s h.body)) (inside_list (walk_runs levels s) each h.little s h.body)
+inside_content unknown_class levels s each h = tt
 
 inside_from : (at levels : ℕ) (s : List ℕ) (each : (at : ℕ) → Inside at (run_counts (walk_runs levels s at))) (g : ParsedHeader) → AfterFive at g → Inside at (run_counts (map_parsed runs_of (geometry_from (walk_of levels s) s g)))
 unfolding geometry_from run_counts AfterFive map_parsed
 inside_from at levels s each (header.Refused k) p = tt
 inside_from at levels s each (header.Read h) p =
     later at h.body (run_counts (map_parsed runs_of (geometry_from (walk_of levels s) s (header.Read h)))) (omega (arith, p))
-    (subst (λ (w : ParsedRuns). Inside h.body (run_counts w)) (sym (content_runs (geometry_class_of h.kind) levels s h)) (inside_content (geometry_class_of h.kind) levels s each h))
+    (subst (λ (w : ParsedRuns). Inside h.body (run_counts w)) (sym (content_runs_lem (geometry_class_of h.kind) levels s h)) (inside_content (geometry_class_of h.kind) levels s each h))
 
 pub inside_walk : (levels : ℕ) (s : List ℕ) (at : ℕ) → Inside at (run_counts (walk_runs levels s at))
 unfolding walk_of run_counts map_parsed

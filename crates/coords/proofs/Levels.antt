@@ -2,7 +2,7 @@
 use mathlib.Core.Path.{◌≡◌, refl, ap, subst, ◌∙◌}
 use mathlib.Core.Bool.{Bool, true, false, cond}
 use mathlib.Core.List.{List}
-use Prim.Native.Nat.{ℕ, zero, suc, ◌+◌, ◌<◌, ◌≤◌, max}
+use Prim.Native.Nat.{ℕ, zero, suc, ◌+◌, ◌<◌, ◌≤◌}
 use native.Mathlib.Nat.{max-le, le-max_left, le-max_right}
 use native.Mathlib.Omega.{arith}
 use lib.Dec.{ltb}
@@ -11,7 +11,7 @@ use Rattle.fields.specs.Fields.{u32_at}
 use Rattle.coords.specs.declared.WkbHeader.{WkbHeader}
 use Rattle.coords.specs.declared.ParsedHeader.{ParsedHeader}
 use Rattle.coords.specs.declared.ParsedHeader.TheVariants as header
-use Rattle.coords.specs.Walk.{Geometry, geometry, Content, point, line, rings, members, Members, no_members, one_more, Parsed, ok, refused, map_parsed, cons_parsed, and_then, times, list_at, point_at, line_at, rings_at, members_at, GeometryClass, pointClass, lineClass, polygonClass, collectionClass, unknownClass, geometry_class_of, content_of, header_at, geometry_from, walk_of}
+use Rattle.coords.specs.Walk.{Geometry, geometry, Content, point, line, rings, members, Members, no_members, one_more, Parsed, ok, refused, map_parsed, cons_parsed, and_then, times, list_at, point_at, line_at, rings_at, members_at, GeometryClass, point_class, line_class, polygon_class, collection_class, unknown_class, geometry_class_of, content_of, header_at, geometry_from, walk_of}
 use Rattle.coords.specs.Levels.{deepest_level, content_level, members_level}
 
 -- what r says once `level` of what was read is at most n; w reads the same then
@@ -58,13 +58,13 @@ flat_content n c e (refused k) = tt
 
 content_at_most : (k : GeometryClass) (f : ℕ → Parsed Geometry) (n : ℕ) (each : (at : ℕ) → AtMost geometry_level n (f at)) (s : List ℕ) (h : WkbHeader) → AtMost content_level n (content_of k f s h)
 unfolding content_of AtMost content_level list_at
-content_at_most pointClass f n each s h = flat_content n point (λ a. refl) (point_at h s h.body)
-content_at_most lineClass f n each s h = flat_content n line (λ a. refl) (line_at h s h.body)
-content_at_most polygonClass f n each s h = flat_content n rings (λ a. refl) (rings_at h s h.body)
-content_at_most collectionClass f n each s h =
+content_at_most point_class f n each s h = flat_content n point (λ a. refl) (point_at h s h.body)
+content_at_most line_class f n each s h = flat_content n line (λ a. refl) (line_at h s h.body)
+content_at_most polygon_class f n each s h = flat_content n rings (λ a. refl) (rings_at h s h.body)
+content_at_most collection_class f n each s h =
     at_most_map members_level content_level n n members (λ a i. i) (members_at f h.little s h.body)
     (at_most_needed members_level n (ltb (length s) (h.body + 4)) (times one_more no_members f (u32_at h.little s h.body) (h.body + 4)) (members_at_most f n each (u32_at h.little s h.body) (h.body + 4)))
-content_at_most unknownClass f n each s h = tt
+content_at_most unknown_class f n each s h = tt
 
 geometry_at_most : (f : ℕ → Parsed Geometry) (n : ℕ) (each : (at : ℕ) → AtMost geometry_level n (f at)) (s : List ℕ) (r : ParsedHeader) → AtMost geometry_level (suc n) (geometry_from f s r)
 unfolding geometry_from AtMost geometry_level deepest_level
@@ -116,13 +116,13 @@ reads_same level n (refused k) = tt
 
 content_reads : (k : GeometryClass) (f f' : ℕ → Parsed Geometry) (n : ℕ) (each : (at : ℕ) → Reads geometry_level n (f at) (f' at)) (s : List ℕ) (h : WkbHeader) → Reads content_level n (content_of k f s h) (content_of k f' s h)
 unfolding content_of content_level list_at
-content_reads pointClass f f' n each s h = reads_same content_level n (map_parsed point (point_at h s h.body))
-content_reads lineClass f f' n each s h = reads_same content_level n (map_parsed line (line_at h s h.body))
-content_reads polygonClass f f' n each s h = reads_same content_level n (map_parsed rings (rings_at h s h.body))
-content_reads collectionClass f f' n each s h =
+content_reads point_class f f' n each s h = reads_same content_level n (map_parsed point (point_at h s h.body))
+content_reads line_class f f' n each s h = reads_same content_level n (map_parsed line (line_at h s h.body))
+content_reads polygon_class f f' n each s h = reads_same content_level n (map_parsed rings (rings_at h s h.body))
+content_reads collection_class f f' n each s h =
     reads_map members_level content_level n n members (λ a i. i) (members_at f h.little s h.body) (members_at f' h.little s h.body)
     (reads_needed members_level n (ltb (length s) (h.body + 4)) (times one_more no_members f (u32_at h.little s h.body) (h.body + 4)) (times one_more no_members f' (u32_at h.little s h.body) (h.body + 4)) (members_read f f' n each (u32_at h.little s h.body) (h.body + 4)))
-content_reads unknownClass f f' n each s h = reads_same content_level n (refused 11)
+content_reads unknown_class f f' n each s h = reads_same content_level n (refused 11)
 
 geometry_reads : (f f' : ℕ → Parsed Geometry) (n : ℕ) (each : (at : ℕ) → Reads geometry_level n (f at) (f' at)) (s : List ℕ) (r : ParsedHeader) → Reads geometry_level (suc n) (geometry_from f s r) (geometry_from f' s r)
 unfolding geometry_from geometry_level deepest_level Reads

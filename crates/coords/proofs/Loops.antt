@@ -13,7 +13,7 @@ use Rattle.coords.specs.Walk.{Coordinate, ok, refused, cons_parsed, and_then, ti
 use Rattle.coords.specs.declared.WkbHeader.{WkbHeader}
 use Rattle.coords.specs.Parts.{Run, run, coordinate_count, other_if, other_count}
 use Rattle.coords.specs.Inner.{ParsedRuns, line_runs, rings_at_runs, members_at_runs, walk_runs}
-use Rattle.coords.proofs.Runs.{rings_runs_lem, members_runs}
+use Rattle.coords.proofs.Runs.{rings_runs_lem, members_runs_lem}
 use Rattle.coords.specs.Counts.{run_counts}
 use Rattle.coords.specs.declared.Counts.{Counts}
 use Rattle.coords.specs.declared.Counts.TheVariants as counts
@@ -83,7 +83,7 @@ pub rings_are : (h : WkbHeader) (s : List ℕ) (at n : ℕ) (t : Bool) → t ≡
 rings_are h s at n t p q e = ap run_counts (rings_runs_lem h s at) ∙ list_is (line_runs h s) h.little s at n t p q e
 
 pub members_are : (levels : ℕ) (little : Bool) (s : List ℕ) (at n : ℕ) (t : Bool) → t ≡ ltb (length s) (at + 4) → t ≡ false → n ≡ u32_at little s at → run_counts (members_at_runs levels little s at) ≡ run_counts (times ◌++◌ [] (walk_runs levels s) n (at + 4))
-members_are levels little s at n t p q e = ap run_counts (members_runs levels little s at) ∙ list_is (walk_runs levels s) little s at n t p q e
+members_are levels little s at n t p q e = ap run_counts (members_runs_lem levels little s at) ∙ list_is (walk_runs levels s) little s at n t p q e
 
 -- a loop's state after a thing that was refused, and after one that was read
 pub turn_refused : (f : ℕ → ParsedRuns) (all : Counts) (coords runs others left next k : ℕ) (o : Counts) → all ≡ plus coords runs others (run_counts (times ◌++◌ [] f left next)) → 0 < left → o ≡ run_counts (f next) → o ≡ counts.Refused k → all ≡ counts.Refused k

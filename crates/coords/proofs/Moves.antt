@@ -14,7 +14,7 @@ use Rattle.coords.specs.declared.WkbHeader.{WkbHeader}
 use Rattle.coords.specs.declared.ParsedHeader.{ParsedHeader}
 use Rattle.coords.specs.declared.ParsedHeader.TheVariants as header
 use Rattle.fields.specs.TypeCode.{has_flag, srid_flag}
-use Rattle.coords.specs.Walk.{Coordinate, Geometry, geometry, Content, point, line, rings, members, no_members, one_more, Parsed, ok, refused, map_parsed, stride_of, stride, ordinate_if, m_offset, coordinate_at, coordinates_from, point_at, coordinates_at, line_at, cons_parsed, and_then, times, list_at, rings_at, members_at, GeometryClass, pointClass, lineClass, polygonClass, collectionClass, unknownClass, geometry_class_of, content_of, wkb_header, header_of_type, header_at, geometry_from, walk_of}
+use Rattle.coords.specs.Walk.{Coordinate, Geometry, geometry, Content, point, line, rings, members, no_members, one_more, Parsed, ok, refused, map_parsed, stride_of, stride, ordinate_if, m_offset, coordinate_at, coordinates_from, point_at, coordinates_at, line_at, cons_parsed, and_then, times, list_at, rings_at, members_at, GeometryClass, point_class, line_class, polygon_class, collection_class, unknown_class, geometry_class_of, content_of, wkb_header, header_of_type, header_at, geometry_from, walk_of}
 
 -- n bytes at a of s stand at a' of s' too
 module _ (s s' : List ℕ) (a a' n : ℕ) (same : (i : ℕ) → i < n → get_or s (a + i) 0 ≡ get_or s' (a' + i) 0) (room : a' + n ≤ length s') where
@@ -151,13 +151,13 @@ module _ (s s' : List ℕ) (a a' n : ℕ) (same : (i : ℕ) → i < n → get_or
 
   content_carries : (k : GeometryClass) (f f' : ℕ → Parsed Geometry) (each : (q : ℕ) → a ≤ q → Carries q (f q) (f' (there q))) (h : WkbHeader) → a ≤ h.body → Carries h.body (content_of k f s h) (content_of k f' s' (moved h))
   unfolding content_of Carries
-  content_carries pointClass f f' each h g = map_carries point h.body (point_at h s h.body) (point_at (moved h) s' (there h.body)) (point_carries h h.body g)
-  content_carries lineClass f f' each h g = map_carries line h.body (line_at h s h.body) (line_at (moved h) s' (there h.body)) (line_carries h h.body g)
-  content_carries polygonClass f f' each h g =
+  content_carries point_class f f' each h g = map_carries point h.body (point_at h s h.body) (point_at (moved h) s' (there h.body)) (point_carries h h.body g)
+  content_carries line_class f f' each h g = map_carries line h.body (line_at h s h.body) (line_at (moved h) s' (there h.body)) (line_carries h h.body g)
+  content_carries polygon_class f f' each h g =
       map_carries rings h.body (rings_at h s h.body) (rings_at (moved h) s' (there h.body)) (list_carries ◌∷◌ [] (line_at h s) (line_at (moved h) s') (line_carries h) h.little h.body g)
-  content_carries collectionClass f f' each h g =
+  content_carries collection_class f f' each h g =
       map_carries members h.body (members_at f h.little s h.body) (members_at f' h.little s' (there h.body)) (list_carries one_more no_members f f' each h.little h.body g)
-  content_carries unknownClass f f' each h g = tt
+  content_carries unknown_class f f' each h g = tt
 
   HeaderCarries : ℕ → ParsedHeader → ParsedHeader → Type 0
   HeaderCarries p (header.Read h) w = (p ≤ h.body) × (h.body ≤ a + n → w ≡ header.Read (moved h))

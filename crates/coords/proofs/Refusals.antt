@@ -15,7 +15,7 @@ use Rattle.coords.specs.declared.WkbHeader.{WkbHeader}
 use Rattle.coords.specs.declared.ParsedHeader.{ParsedHeader}
 use Rattle.coords.specs.declared.ParsedHeader.TheVariants as header
 use Rattle.fields.specs.TypeCode.{has_flag, srid_flag}
-use Rattle.coords.specs.Walk.{Geometry, geometry, point, line, rings, members, no_members, one_more, Parsed, ok, refused, map_parsed, cons_parsed, and_then, times, list_at, stride, coordinate_at, coordinates_from, point_at, coordinates_at, line_at, rings_at, members_at, GeometryClass, pointClass, lineClass, polygonClass, collectionClass, unknownClass, geometry_class_of, content_of, wkb_header, header_of_type, header_at, geometry_from, walk_of, all_levels}
+use Rattle.coords.specs.Walk.{Geometry, geometry, point, line, rings, members, no_members, one_more, Parsed, ok, refused, map_parsed, cons_parsed, and_then, times, list_at, stride, coordinate_at, coordinates_from, point_at, coordinates_at, line_at, rings_at, members_at, GeometryClass, point_class, line_class, polygon_class, collection_class, unknown_class, geometry_class_of, content_of, wkb_header, header_of_type, header_at, geometry_from, walk_of, all_levels}
 use Rattle.coords.specs.Refusals.{refused_with, is_accepted, walk_checks}
 
 -- what holds of the number of every refusal
@@ -99,11 +99,11 @@ nine = (omega arith, omega arith)
 
 numbered_content : (c : GeometryClass) (f : ℕ → Parsed Geometry) (each : (at : ℕ) → Numbered WalkNumber (f at)) (s : List ℕ) (h : WkbHeader) → Numbered WalkNumber (content_of c f s h)
 unfolding content_of Numbered
-numbered_content pointClass f each s h = numbered_map WalkNumber point (point_at h s h.body) (numbered_point WalkNumber nine h s h.body)
-numbered_content lineClass f each s h = numbered_map WalkNumber line (line_at h s h.body) (numbered_line WalkNumber nine h s h.body)
-numbered_content polygonClass f each s h = numbered_map WalkNumber rings (rings_at h s h.body) (numbered_list WalkNumber nine ◌∷◌ [] (line_at h s) (numbered_line WalkNumber nine h s) h.little s h.body)
-numbered_content collectionClass f each s h = numbered_map WalkNumber members (members_at f h.little s h.body) (numbered_list WalkNumber nine one_more no_members f each h.little s h.body)
-numbered_content unknownClass f each s h = (omega arith, omega arith)
+numbered_content point_class f each s h = numbered_map WalkNumber point (point_at h s h.body) (numbered_point WalkNumber nine h s h.body)
+numbered_content line_class f each s h = numbered_map WalkNumber line (line_at h s h.body) (numbered_line WalkNumber nine h s h.body)
+numbered_content polygon_class f each s h = numbered_map WalkNumber rings (rings_at h s h.body) (numbered_list WalkNumber nine ◌∷◌ [] (line_at h s) (numbered_line WalkNumber nine h s) h.little s h.body)
+numbered_content collection_class f each s h = numbered_map WalkNumber members (members_at f h.little s h.body) (numbered_list WalkNumber nine one_more no_members f each h.little s h.body)
+numbered_content unknown_class f each s h = (omega arith, omega arith)
 
 numbered_geometry : (f : ℕ → Parsed Geometry) (each : (at : ℕ) → Numbered WalkNumber (f at)) (s : List ℕ) (r : ParsedHeader) → HeaderNumbered WalkNumber r → Numbered WalkNumber (geometry_from f s r)
 unfolding geometry_from HeaderNumbered Numbered

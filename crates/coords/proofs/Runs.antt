@@ -8,7 +8,7 @@ use lib.Dec.{ltb}
 use lib.ListN.{length}
 use Rattle.fields.specs.Fields.{u32_at}
 use Rattle.coords.specs.declared.WkbHeader.{WkbHeader}
-use Rattle.coords.specs.Walk.{Coordinate, geometry, Content, point, line, rings, members, no_members, one_more, Parsed, ok, refused, map_parsed, stride, coordinate_at, coordinates_from, point_at, coordinates_at, line_at, cons_parsed, and_then, times, list_at, rings_at, members_at, GeometryClass, pointClass, lineClass, polygonClass, collectionClass, unknownClass, content_of, walk_of}
+use Rattle.coords.specs.Walk.{Coordinate, geometry, Content, point, line, rings, members, no_members, one_more, Parsed, ok, refused, map_parsed, stride, coordinate_at, coordinates_from, point_at, coordinates_at, line_at, cons_parsed, and_then, times, list_at, rings_at, members_at, GeometryClass, point_class, line_class, polygon_class, collection_class, unknown_class, content_of, walk_of}
 use Rattle.coords.specs.Parts.{Run, run, non_empty_run, rings_runs, runs_of, content_runs, members_runs}
 use Rattle.coords.specs.Inner.{ParsedRuns, coordinates_runs, line_runs, rings_at_runs, members_at_runs, walk_runs}
 
@@ -42,9 +42,9 @@ pub rings_runs_lem : (h : WkbHeader) (s : List ℕ) (at : ℕ) → rings_at_runs
 unfolding rings_runs
 rings_runs_lem h s at = map_list ◌∷◌ [] (non_empty_run h.kind) (rings_runs h.kind) refl (λ ring rs. refl) (line_at h s) h.little s at
 
-pub members_runs : (levels : ℕ) (little : Bool) (s : List ℕ) (at : ℕ) → members_at_runs levels little s at ≡ list_at ◌++◌ [] (walk_runs levels s) little s at
+pub members_runs_lem : (levels : ℕ) (little : Bool) (s : List ℕ) (at : ℕ) → members_at_runs levels little s at ≡ list_at ◌++◌ [] (walk_runs levels s) little s at
 unfolding members_runs
-members_runs levels little s at = map_list one_more no_members runs_of members_runs refl (λ g gs. refl) (walk_of levels s) little s at
+members_runs_lem levels little s at = map_list one_more no_members runs_of members_runs refl (λ g gs. refl) (walk_of levels s) little s at
 
 pub line_runs_lem : (h : WkbHeader) (s : List ℕ) (at : ℕ) → line_runs h s at ≡ cond (ltb (length s) (at + 4)) (refused 9) (coordinates_runs h s (u32_at h.little s at) (at + 4))
 unfolding line_at
@@ -56,11 +56,11 @@ coordinates_runs_lem h s n at = map_needed (non_empty_run h.kind) (ltb (length s
 
 -- the runs of what follows a header
 unfoldable pub content_runs_at : GeometryClass → ℕ → List ℕ → WkbHeader → ParsedRuns
-content_runs_at pointClass levels s h = coordinates_runs h s 1 h.body
-content_runs_at lineClass levels s h = line_runs h s h.body
-content_runs_at polygonClass levels s h = rings_at_runs h s h.body
-content_runs_at collectionClass levels s h = members_at_runs levels h.little s h.body
-content_runs_at unknownClass levels s h = refused 11
+content_runs_at point_class levels s h = coordinates_runs h s 1 h.body
+content_runs_at line_class levels s h = line_runs h s h.body
+content_runs_at polygon_class levels s h = rings_at_runs h s h.body
+content_runs_at collection_class levels s h = members_at_runs levels h.little s h.body
+content_runs_at unknown_class levels s h = refused 11
 
 -- a geometry's runs are its content's
 map_geometry : {A : Type 0} (k : ℕ) (z m : Bool) (content : A → Content) (runs : A → List (Run Coordinate)) → ((a : A) → content_runs k (content a) ≡ runs a) → (r : Parsed A) → map_parsed runs_of (map_parsed (geometry k z m) (map_parsed content r)) ≡ map_parsed runs r
@@ -74,10 +74,10 @@ point_run h s at =
     let e : stride h ≡ 1 * stride h = omega arith in
     map_needed (λ (c : Coordinate). run h.kind (c ∷ []) ∷ []) (ltb (length s) (at + stride h)) (ok (coordinate_at h s at) (at + stride h)) ∙ (ap (λ (n : ℕ). cond (ltb (length s) (at + n)) (refused 9) (ok (run h.kind (coordinate_at h s at ∷ []) ∷ []) (at + n))) e ∙ sym (coordinates_runs_lem h s 1 at))
 
-pub content_runs : (c : GeometryClass) (levels : ℕ) (s : List ℕ) (h : WkbHeader) → map_parsed runs_of (map_parsed (geometry h.kind h.z h.m) (content_of c (walk_of levels s) s h)) ≡ content_runs_at c levels s h
+pub content_runs_lem : (c : GeometryClass) (levels : ℕ) (s : List ℕ) (h : WkbHeader) → map_parsed runs_of (map_parsed (geometry h.kind h.z h.m) (content_of c (walk_of levels s) s h)) ≡ content_runs_at c levels s h
 unfolding content_of content_runs_at content_runs map_parsed
-content_runs pointClass levels s h = map_geometry h.kind h.z h.m point (λ (c : Coordinate). run h.kind (c ∷ []) ∷ []) (λ c. refl) (point_at h s h.body) ∙ point_run h s h.body
-content_runs lineClass levels s h = map_geometry h.kind h.z h.m line (non_empty_run h.kind) (λ c. refl) (line_at h s h.body)
-content_runs polygonClass levels s h = map_geometry h.kind h.z h.m rings (rings_runs h.kind) (λ c. refl) (rings_at h s h.body)
-content_runs collectionClass levels s h = map_geometry h.kind h.z h.m members members_runs (λ c. refl) (members_at (walk_of levels s) h.little s h.body)
-content_runs unknownClass levels s h = refl
+content_runs_lem point_class levels s h = map_geometry h.kind h.z h.m point (λ (c : Coordinate). run h.kind (c ∷ []) ∷ []) (λ c. refl) (point_at h s h.body) ∙ point_run h s h.body
+content_runs_lem line_class levels s h = map_geometry h.kind h.z h.m line (non_empty_run h.kind) (λ c. refl) (line_at h s h.body)
+content_runs_lem polygon_class levels s h = map_geometry h.kind h.z h.m rings (rings_runs h.kind) (λ c. refl) (rings_at h s h.body)
+content_runs_lem collection_class levels s h = map_geometry h.kind h.z h.m members members_runs (λ c. refl) (members_at (walk_of levels s) h.little s h.body)
+content_runs_lem unknown_class levels s h = refl

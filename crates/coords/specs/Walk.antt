@@ -164,23 +164,23 @@ members_at f little s at = list_at one_more no_members f little s at
 
 -- what a geometry of some kind holds
 pub data GeometryClass : Type 0 where
-  pointClass lineClass polygonClass collectionClass unknownClass : GeometryClass
+  point_class line_class polygon_class collection_class unknown_class : GeometryClass
 
 -- 1 point, 2 line, 3 polygon, 17 triangle, 4 to 7, 15 and 16 collections, nothing else
 unfoldable pub geometry_class_of : ℕ → GeometryClass
 geometry_class_of k =
-    cond (eqb k 1) pointClass
-    (cond (eqb k 2) lineClass
-    (cond (eqb k 3 || eqb k 17) polygonClass
-    (cond ((leb 4 k && leb k 7) || (eqb k 15 || eqb k 16)) collectionClass unknownClass)))
+    cond (eqb k 1) point_class
+    (cond (eqb k 2) line_class
+    (cond (eqb k 3 || eqb k 17) polygon_class
+    (cond ((leb 4 k && leb k 7) || (eqb k 15 || eqb k 16)) collection_class unknown_class)))
 
 -- what follows a header: refusal 11 for an unknown kind; f reads a member
 unfoldable pub content_of : GeometryClass → (ℕ → Parsed Geometry) → List ℕ → WkbHeader → Parsed Content
-content_of pointClass f s h = map_parsed point (point_at h s h.body)
-content_of lineClass f s h = map_parsed line (line_at h s h.body)
-content_of polygonClass f s h = map_parsed rings (rings_at h s h.body)
-content_of collectionClass f s h = map_parsed members (members_at f h.little s h.body)
-content_of unknownClass f s h = refused 11
+content_of point_class f s h = map_parsed point (point_at h s h.body)
+content_of line_class f s h = map_parsed line (line_at h s h.body)
+content_of polygon_class f s h = map_parsed rings (rings_at h s h.body)
+content_of collection_class f s h = map_parsed members (members_at f h.little s h.body)
+content_of unknown_class f s h = refused 11
 
 -- a geometry by its header; f reads a member
 unfoldable pub geometry_from : (ℕ → Parsed Geometry) → List ℕ → ParsedHeader → Parsed Geometry

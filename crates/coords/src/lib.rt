@@ -1,4 +1,6 @@
 // The checking pass of the walk over a WKB geometry.
+#![tactic(auto)]
+
 ghost use Rattle.std.specs.Prelude.{◌≡◌, ◌+◌, ltb};
 ghost use Rattle.coords.specs.Walk.{map_parsed, z_of, m_of, header_at, stride_of, rings_at, all_levels, walk_of};
 ghost use Rattle.coords.specs.Inner.{coordinates_runs, line_runs, members_at_runs};
@@ -8,7 +10,7 @@ ghost use Rattle.coords.specs.Counts.{run_counts, counts_of};
 use fields::u32_at;
 
 // What the header of a geometry says; its content starts at body.
-#[derive(Drop)]
+#[derive(Clone, Copy)]
 pub struct WkbHeader {
     pub little: bool,
     pub z: bool,
@@ -17,7 +19,7 @@ pub struct WkbHeader {
     pub body: usize,
 }
 
-#[derive(Drop)]
+#[derive(Clone, Copy)]
 pub enum ParsedHeader {
     Read(WkbHeader),
     Refused(u8),
@@ -25,7 +27,7 @@ pub enum ParsedHeader {
 
 // Coordinates, runs with at least one coordinate, those of them that are points or faces, and the position after the
 // geometry; or the number of the refusal.
-#[derive(Drop)]
+#[derive(Clone, Copy)]
 pub enum Counts {
     Accepted {
         coords: usize,

@@ -1,5 +1,7 @@
 // Pair rule 2: a segment against a triangle first tries a crossing (document 02, 3/13). A crossing's distance is 0, so that nothing after it
 // in the pair changes the best: where there is one, it is offered alone, and where there is none, the pair is measured as by rule 1.
+#![tactic(auto)]
+
 ghost use Rattle.std.specs.Prelude.{◌≡◌};
 ghost use Rattle.extremes.specs.InnerBest.{best_of, Sound, Keeps};
 ghost use Rattle.measures.specs.Measures.{normal_of, inner_side, inside_triangle};
@@ -15,7 +17,7 @@ use measures::{Triangle, UnrootedWitness};
 use primitives::{Point, Witness};
 
 // The crossing of a segment with a triangle, or the first of several.
-#[derive(Drop)]
+#[derive(Clone, Copy)]
 pub enum Crossing {
     At(Point),
     Nothing,

@@ -1,5 +1,5 @@
 -- A tape read from a place on, a blob by its place in the tape, and the hits that a pass stores: for inner contracts only. Definitions only.
-use Rattle.std.specs.Prelude.{ℕ, ◌+◌, ◌-◌, ◌<◌, ◌≤◌, ◌≡◌, Bool, true, cond, ◌⊎◌, ltb, eqb, length, take, drop, get_or, set, Float}
+use Rattle.std.specs.Prelude.{ℕ, ◌+◌, ◌-◌, ◌<◌, ◌≤◌, ◌≡◌, true, cond, ◌⊎◌, ltb, eqb, length, take, drop, get_or, set, Float}
 use mathlib.Core.List.{List, [], ◌∷◌, ◌++◌, map, foldl}
 use Rattle.std.proofs.Math.Option.{Option, none, some}
 use Rattle.std.proofs.Math.Seq.{slice}
@@ -8,7 +8,7 @@ use Rattle.refusals.specs.Checks.{first_of}
 use Rattle.refusals.specs.declared.Refusal.{Refusal}
 use Rattle.fields.specs.Fields.{u32_at}
 use Rattle.operands.specs.Operands.{Workspaces}
-use Rattle.outcomes.specs.Answers.{Value, number, decided, blob, nothing, Report, answering, refused}
+use Rattle.outcomes.specs.Answers.{number, decided, blob, nothing, Report, answering, refused}
 use Rattle.outcomes.specs.Operations.{no_side, tolerance_checks, distance}
 use Rattle.dig_matcher.specs.Tape.{Command, load, tolerance, pair, Reading, unfinished, ended, unknown, tape_of, commands_of, is_broken}
 use Rattle.dig_matcher.specs.Job.{Hit, Job, Progress, going, stopped, stepped, at_tape_end, HitLists, hit_lists, places_in}

@@ -6,6 +6,8 @@
 // 2. A pass runs the commands (`pass`). Blobs stay where they are in the tape; an array has their places.
 // 3. Nothing may be written before the whole tape is accepted, so a pass first keeps hits in arrays of its own. Where
 //    these hold all of them they are copied; else a second pass writes them where they belong (`job`).
+#![tactic(auto)]
+
 mod tape;
 
 ghost use Rattle.std.specs.Prelude.{◌≡◌, ◌||◌, ◌⊎◌, eqb, ℕ, min, ◌+◌, ◌^◌, ◌<◌, ◌≤◌, length, take, get_or};
@@ -22,21 +24,21 @@ use tape::{Step, read_command};
 use threed_closest::st_3d_distance;
 
 // The number of hits, or a refusal.
-#[derive(Drop)]
+#[derive(Clone, Copy)]
 pub enum JobAnswer {
     Hits(usize),
     Refused(Refusal),
 }
 
 // How a pass over the tape went.
-#[derive(Drop)]
+#[derive(Clone, Copy)]
 pub enum Passed {
     Ended(usize),
     Refused(Refusal),
 }
 
 // What two numbers came to.
-#[derive(Drop)]
+#[derive(Clone, Copy)]
 pub enum Matched {
     Hit(f64),
     NoHit,
@@ -44,7 +46,7 @@ pub enum Matched {
 }
 
 // Two numbers, and how far apart their blobs are.
-#[derive(Drop)]
+#[derive(Clone, Copy)]
 pub struct Hit {
     pub first: u16,
     pub second: u16,
@@ -147,9 +149,9 @@ fn places_in(first: usize, second: usize, distances: usize) -> usize
 
 // A hit, as the one after k others; where a list has no place for it, nothing.
 fn put_hit(first: &mut [u16], second: &mut [u16], distances: &mut [f64], k: usize, hit: Hit)
-    ensures { hit_lists first.exit.now second.new distances.new
+    ensures { hit_lists first.new second.new distances.new
         ≡ with_hit k (record { first = hit.first; second = hit.second; apart = hit.apart })
-        (hit_lists first.entry.now second.old distances.old) }
+        (hit_lists first.old second.old distances.old) }
 {
     if places_in(first.len(), second.len(), distances.len()) <= k {
         return;
@@ -213,9 +215,9 @@ fn add_hit(
 ) -> usize
     requires { k < 2 ^ 63 }
     ensures count { result ≡ k + 1 }
-    ensures lists { hit_lists first.exit.now second.new distances.new
+    ensures lists { hit_lists first.new second.new distances.new
         ≡ with_hit k (record { first = i; second = j; apart = apart })
-        (hit_lists first.entry.now second.old distances.old) }
+        (hit_lists first.old second.old distances.old) }
 {
     let hit = Hit {
         first: i,

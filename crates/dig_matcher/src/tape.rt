@@ -5,7 +5,7 @@ ghost use Rattle.dig_matcher.specs.Inner.{StepAt};
 use fields::{f64_at, u32_at};
 
 // A command, and where the next one starts: of a blob that is loaded, where it starts and where it ends.
-#[derive(Drop)]
+#[derive(Clone, Copy)]
 pub enum Step {
     Load {
         number: u16,

@@ -1,6 +1,6 @@
 -- What the two box tests tell of each pair behind them: it is not strictly longer, or not strictly shorter, than the best. Assumes nothing.
 use mathlib.Core.Path.{◌≡◌}
-use mathlib.Core.Bool.{false, not}
+use mathlib.Core.Bool.{false}
 use lib.Dec.{T}
 use lib.Ieee.{binary64, mul, lt, le}
 use Rattle.ieee754.proofs.FloatOrder.{le_number_left, le_number_right}

@@ -18,7 +18,7 @@ use Rattle.extremes.specs.Extreme.{measured, distance_of, HasDistance, FirstAt, 
 use Rattle.primitives.specs.Witnesses.{better_of}
 use Rattle.extremes.specs.Sweeps.{taking}
 use Rattle.extremes.proofs.Lists.{Each, Before, each_at, before_at}
-use Rattle.extremes.proofs.PairLists.{no_pairs, mapPair, pairs_mapped}
+use Rattle.extremes.proofs.PairLists.{no_pairs, map_pair, pairs_mapped}
 use Rattle.extremes.proofs.Senses.{Number, Sense, order_self, beats_up, beats_down}
 use Rattle.extremes.proofs.Distances.{distance_fits}
 
@@ -28,7 +28,7 @@ best_of point beats s l = foldl (λ best p. taking beats best (measured point p)
 
 -- the best of all pairs of mapped vertices
 pub best_mapped : {A : Type 0} (point : A → Point) (beats : Float → Float → Bool) (ls rs : List A) → best_of (λ v. v) beats none (pairs_of (map point ls) (map point rs)) ≡ best_of point beats none (pairs_of ls rs)
-best_mapped point beats ls rs = ap (best_of (λ v. v) beats none) (pairs_mapped point ls rs) ∙ foldl-map (mapPair point) (λ best p. taking beats best (measured (λ v. v) p)) (pairs_of ls rs) none
+best_mapped point beats ls rs = ap (best_of (λ v. v) beats none) (pairs_mapped point ls rs) ∙ foldl-map (map_pair point) (λ best p. taking beats best (measured (λ v. v) p)) (pairs_of ls rs) none
 
 -- End theorem: there is one first position only.
 pub first_unique : {A : Type 0} (distance : Pair A → Float) (order : Float → Float → Bool) (l : List (Pair A)) (k k' : ℕ) (p p' : Pair A) → FirstAt distance order l k p → FirstAt distance order l k' p' → k ≡ k'

@@ -54,21 +54,21 @@ module _ {order beats : Float → Float → Bool} (ρ : RootSense order beats) (
     sum_renewed q = record { same = unbeaten; sound = record { empty = λ t. absurd (false≢true (sym e ∙ t)); root = λ t. sym q ∙ r; fitting = f } }
 
   -- w as the best, with s
-  abbrev newBest : Best
-  newBest = record { sum = s; witness = w }
+  abbrev new_best : Best
+  new_best = record { sum = s; witness = w }
 
-  new_held : empty newBest ≡ false
+  new_held : empty new_best ≡ false
   new_held = rw r (root_not_below s f positive_zero (unfold eq in refl))
 
-  new_sound : Sound newBest
+  new_sound : Sound new_best
   new_sound = record { empty = λ t. absurd (false≢true (sym new_held ∙ t)); root = λ t. r; fitting = f }
 
   -- the first is taken
-  pub first_taken : empty b ≡ true → Keeps newBest (taking beats (best_of b) w)
+  pub first_taken : empty b ≡ true → Keeps new_best (taking beats (best_of b) w)
   unfolding taking
   first_taken e = record { same = rw (e, new_held); sound = new_sound }
 
   -- one whose root beats it replaces it
-  pub better_taken : empty b ≡ false → beats b.witness.d w.d ≡ true → Keeps newBest (taking beats (best_of b) w)
+  pub better_taken : empty b ≡ false → beats b.witness.d w.d ≡ true → Keeps new_best (taking beats (best_of b) w)
   unfolding taking
   better_taken e l = record { same = rw (e, new_held, l); sound = new_sound }

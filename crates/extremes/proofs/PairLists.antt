@@ -5,21 +5,21 @@ use Rattle.extremes.specs.Pairs.{Pair, pairs_with, pairs_of}
 use Rattle.extremes.proofs.Lists.{Each, each_append}
 
 module _ {A B : Type 0} (f : A → B) where
-  abbrev pub mapPair : Pair A → Pair B
-  mapPair p = record { left = f p.left; right = f p.right }
+  abbrev pub map_pair : Pair A → Pair B
+  map_pair p = record { left = f p.left; right = f p.right }
 
-  pub pairs_with_mapped : (a : A) (rs : List A) → pairs_with (f a) (map f rs) ≡ map mapPair (pairs_with a rs)
+  pub pairs_with_mapped : (a : A) (rs : List A) → pairs_with (f a) (map f rs) ≡ map map_pair (pairs_with a rs)
   unfolding pairs_with
   pairs_with_mapped a [] = refl
   pairs_with_mapped a (b ∷ rs) = ap (λ (l : List (Pair B)). record { left = f a; right = f b } ∷ l) (pairs_with_mapped a rs)
 
-  pub pairs_mapped : (ls rs : List A) → pairs_of (map f ls) (map f rs) ≡ map mapPair (pairs_of ls rs)
+  pub pairs_mapped : (ls rs : List A) → pairs_of (map f ls) (map f rs) ≡ map map_pair (pairs_of ls rs)
   unfolding pairs_of
   pairs_mapped [] rs = refl
   pairs_mapped (a ∷ ls) rs =
       ap (λ (l : List (Pair B)). l ++ pairs_of (map f ls) (map f rs)) (pairs_with_mapped a rs)
-      ∙ ap (λ (l : List (Pair B)). map mapPair (pairs_with a rs) ++ l) (pairs_mapped ls rs)
-      ∙ sym (map-append mapPair (pairs_with a rs) (pairs_of ls rs))
+      ∙ ap (λ (l : List (Pair B)). map map_pair (pairs_with a rs) ++ l) (pairs_mapped ls rs)
+      ∙ sym (map-append map_pair (pairs_with a rs) (pairs_of ls rs))
 
 module _ {A : Type 0} where
   pub no_pairs : (ls : List A) → pairs_of ls [] ≡ []

@@ -39,7 +39,7 @@ module _ (beats : Float → Float → Bool) where
 
   pub row_made : {s : Option Witness} (a : Point) (rs : List Point) → Made s → Made (foldl (λ t b. taking beats t (between_of a b)) s rs)
   row_made a [] m = m
-  row_made a (b ∷ rs) m = row_made a rs (taking_made a b m)
+  row_made {s = s} a (b ∷ rs) m = row_made {s = taking beats s (between_of a b)} a rs (taking_made a b m)
 
   -- there is a best, and w does not beat it
   abbrev pub Unbeaten : Option Witness → Witness → Type 0

@@ -1,4 +1,6 @@
 // The best pair so far and what a sweep found. All pairs, the first extreme pair and the sweeps that skip are definitions (specs/) with their laws (proofs/).
+#![tactic(auto)]
+
 ghost use Rattle.std.specs.Prelude.{◌≡◌};
 ghost use Rattle.std.proofs.Math.Option.{none};
 ghost use Rattle.extremes.specs.Found.{answer_of};
@@ -8,14 +10,14 @@ ghost use Rattle.extremes.specs.Sweeps.{shorter, taking};
 use primitives::Witness;
 
 // The extreme pair that a sweep found, if there is a pair.
-#[derive(Drop)]
+#[derive(Clone, Copy)]
 pub enum ExtremePair {
     Nothing,
     Found(Witness),
 }
 
 // The best witness so far and the sum of squares that its distance is the root of. While there is none, the distance is below 0 and the sum NaN.
-#[derive(Drop)]
+#[derive(Clone, Copy)]
 pub struct Best {
     pub sum: f64,
     pub witness: Witness,

@@ -9,6 +9,8 @@
 //    - the root of a sum of squares that is no greater than the best's, whose root is no greater either (`against_run`; OfferedPair);
 //    - what the definition meets twice: each inner vertex of a line, the end of one segment and the start of the next (VerticesOnce);
 //    - classes that do not occur (`against_class`, `visit_class`, `box_class`; ClassTurns).
+#![tactic(auto)]
+
 ghost use Rattle.std.specs.Prelude.{◌≡◌, [], ◌∷◌, false, ◌+◌, ◌*◌, ◌≤◌, ◌<◌, length};
 ghost use Rattle.std.specs.Float.Ieee.{le};
 ghost use Rattle.coords.specs.Parts.{vertices_of};
@@ -26,7 +28,7 @@ use extremes::{Best, ExtremePair};
 use primitives::{Aabb, Point, Witness};
 
 // Which classes a table has.
-#[derive(Drop)]
+#[derive(Clone, Copy)]
 pub struct Classes {
     pub points: bool,
     pub lines: bool,
@@ -34,7 +36,7 @@ pub struct Classes {
 }
 
 // What the sweep asks of side 2 at every vertex of side 1: its classes, and the box of all its vertices.
-#[derive(Drop)]
+#[derive(Clone, Copy)]
 pub struct Outline {
     pub has: Classes,
     pub bounds: Aabb,

@@ -156,6 +156,9 @@ up_sign M true true A B w v C u C> u> e f h k l = ap (λ (b : Bool). cond b fals
 sign_clear_rank : (y : Float) → T (sign_clear y) → T (fits binary64 y) → top ≤ rank_of y
 sign_clear_rank (inf false) c f = lit≤ tt
 sign_clear_rank (fin false m e) c f = le-add_right top (units_of (fin false m e))
+sign_clear_rank nan c f = elim c [ ]
+sign_clear_rank (inf true) c f = elim c [ ]
+sign_clear_rank (fin true m e) c f = elim c [ ]
 
 abbrev pub sign_set : Float → Bool
 sign_set nan = false
@@ -187,6 +190,8 @@ sign_set_below x y p c f g = subst T (sym (le_by_rank x y (number x p) (sign_cle
     low nan p = absurd p
     low (inf true) p = zero-le
     low (fin true m e) p = sub-le top (units_of (fin true m e))
+    low (inf false) p = elim p [ ]
+    low (fin false m e) p = elim p [ ]
 
 zero_round : (c : ℕ) → 0 < c → round binary64 false 0 c ≡ positive_zero
 zero_round c h = round_same binary64 false 0 c 0 1 h (zero-lt-suc 0) (zero-mul 1 ∙ sym (zero-mul c)) ∙ unit

@@ -1,20 +1,20 @@
 -- What the digits needed say of a root: below 53 exactly where it is exact, and then how many digits it has, 27 at most. Assumes nothing.
-use mathlib.Core.Logic.{◌↔◌, ◌⊎◌, inl, inr}
+use mathlib.Core.Logic.{◌↔◌}
 use mathlib.Core.Path.{◌≡◌, refl, sym, ap, ◌∙◌, subst}
 use Prim.Native.Nat.{ℕ, zero, suc, ◌+◌, ◌-◌, ◌*◌, ◌/◌, ◌%◌, ◌^◌, ◌≤◌, ◌<◌}
 use native.Mathlib.Decide.{dec_le}
-use native.Mathlib.Nat.{le_refl, le_trans, le_of_eq, le_of_lt, le_antisymm, lt_of_lt_of_le, lt_of_le_of_lt, lt_of_not-le, not-le_of_lt, le_of_suc-le-suc, mul-one, mul_assoc, mul_right_comm, mul-mul-mul_comm, mul-le-mul_right, mul-le-mul, mul-pos, mul-div_cancel, eq_of_mul-eq-mul_right, lt_of_mul-lt-mul_right, le_of_mul-le-mul_right, le_dest, pow-suc, pow-succ', zero-lt-suc}
+use native.Mathlib.Nat.{le_refl, le_trans, le_of_eq, le_of_lt, le_antisymm, lt_of_lt_of_le, lt_of_le_of_lt, lt_of_not-le, not-le_of_lt, le_of_suc-le-suc, mul-one, mul_assoc, mul-mul-mul_comm, mul-le-mul_right, mul-div_cancel, eq_of_mul-eq-mul_right, lt_of_mul-lt-mul_right, le_of_mul-le-mul_right, le_dest, pow-suc, pow-succ', zero-lt-suc}
 use native.Mathlib.Omega.{arith}
-use lib.Dec.{T, lit<, lit≤}
+use lib.Dec.{T, lit≤}
 use lib.Ieee.{Float, binary64, fits, to_bits, size}
-use lib.Ieee.Digits.{size-lt, size_reaches, size-le}
+use lib.Ieee.Digits.{size-lt, size_reaches}
 use lib.Ieee.Positive.{positive}
 use lib.Pow.{pow-add, pow_pos, pow_mono, shl_lt}
 use Rattle.ieee754.specs.Root.{units_of, square, root_of}
-use Rattle.ieee754.specs.Digits.{enough_digits, first_from, digits_needed}
-use Rattle.ieee754.specs.InnerRoot.{units_of_pattern, root_pattern, first_digits}
-use Rattle.ieee754.proofs.Arithmetic.{sq_mono, sq_odd, times4, pow_le}
-use Rattle.ieee754.proofs.NeededDigits.{size_at, size_shifted, First, first_from_lem, first_unique, needed_of_positive, root_units, root_is_normal, enough_all, enough_square, square_enough, whole_square}
+use Rattle.ieee754.specs.Digits.{enough_digits, digits_needed}
+use Rattle.ieee754.specs.InnerRoot.{root_pattern, first_digits}
+use Rattle.ieee754.proofs.Arithmetic.{sq_mono, sq_odd, times4}
+use Rattle.ieee754.proofs.NeededDigits.{size_at, size_shifted, First, first_from_lem, first_unique, needed_of_positive, root_units, root_is_normal, enough_all, square_enough, whole_square}
 use Rattle.ieee754.proofs.PatternValues.{units_of_float, units_have_53_digits}
 use Rattle.ieee754.proofs.SquaredRoot.{D, Normal, units_here}
 

@@ -3,7 +3,7 @@ use mathlib.Core.Logic.{◌⊎◌, inl, inr}
 use mathlib.Core.Path.{◌≡◌, refl, sym, ap, ◌∙◌, subst}
 use Prim.Native.Nat.{ℕ, zero, suc, ◌+◌, ◌-◌, ◌*◌, ◌/◌, ◌%◌, ◌^◌, ◌≤◌, ◌<◌}
 use native.Mathlib.Decide.{dec_le}
-use native.Mathlib.Nat.{mul_comm, mul_assoc, mul_right_comm, mul-mul-mul_comm, mul-div_cancel, pow-suc, eq-or-lt_of_le, le_of_suc-le-suc, lt_of_lt_of_le, lt_of_not-le}
+use native.Mathlib.Nat.{mul_comm, mul_assoc, mul_right_comm, mul-mul-mul_comm, mul-div_cancel, pow-suc, eq-or-lt_of_le, lt_of_lt_of_le, lt_of_not-le}
 use native.Mathlib.Omega.{arith}
 use lib.Pow.{pow-add, pow_mono, pow_pos, shl_lt}
 use Rattle.ieee754.specs.InnerRoot.{RootDigits, first_digits, DigitTurns}

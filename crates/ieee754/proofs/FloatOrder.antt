@@ -1,6 +1,5 @@
 -- The order of floats that are no NaN: reflexive, transitive, total. Assumes nothing.
 use mathlib.Core.Bool.{Bool, true, false, not, false≢true}
-use mathlib.Core.Logic.{◌⊎◌}
 use mathlib.Core.Path.{ap, refl, sym, ◌∙◌, subst, ◌≡◌}
 use Prim.Native.Nat.{ℕ, ◌-◌, ◌+◌, ◌<◌, ◌≤◌}
 use native.Mathlib.Nat.{lt_trans, le_refl, le_trans, le_of_lt, not-le_of_lt}

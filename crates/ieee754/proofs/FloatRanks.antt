@@ -1,6 +1,6 @@
 -- Every float but NaN has a rank among the natural numbers, and the comparisons of floats are those of their ranks. Assumes nothing.
 use mathlib.Core.Bool.{Bool, true, false, not, ◌&&◌, ◌||◌, beq, cond}
-use mathlib.Core.Logic.{◌⊎◌, inl, inr}
+use mathlib.Core.Logic.{inl, inr}
 use mathlib.Core.Path.{◌≡◌, refl, sym, ap, ◌∙◌}
 use Prim.Native.Nat.{ℕ, ◌+◌, ◌-◌, ◌*◌, ◌≤◌, ◌<◌, zero-le}
 use native.Mathlib.Nat.{le_of_eq, le_of_lt, lt_of_lt_of_le, lt_of_le_of_lt, lt_of_not-le, not-le_of_lt, zero-mul, mul_comm, mul_assoc, mul_right_comm, add-mul, mul-lt-mul_of_pos_right, mul-pos, lt_of_mul-lt-mul_right, eq_of_mul-eq-mul_right}
@@ -126,6 +126,10 @@ lt_by_rank (inf false) (fin t n d) p q f g = no_lt (top + top) (rank_of (fin t n
 lt_by_rank (fin s m e) (inf true) p q f g = no_lt (rank_of (fin s m e)) 0 zero-le
 lt_by_rank (fin s m e) (inf false) p q f g = yes_lt (rank_of (fin s m e)) (top + top) (inside top s (units_of (fin s m e)) (units_below_top s m e f)).1
 lt_by_rank (fin s m e) (fin t n d) p q f g = lt_fin s m e t n d f g
+lt_by_rank nan y p q f g = elim p [ ]
+lt_by_rank (inf false) nan p q f g = elim q [ ]
+lt_by_rank (inf true) nan p q f g = elim q [ ]
+lt_by_rank (fin s m e) nan p q f g = elim q [ ]
 
 differ : (a b : ℕ) → a < b → a ≡ b → ⊥
 differ a b h e = omega arith
@@ -141,6 +145,10 @@ eq_by_rank (inf false) (fin t n d) p q f g = no_eq (top + top) (rank_of (fin t n
 eq_by_rank (fin s m e) (inf true) p q f g = no_eq (rank_of (fin s m e)) 0 (λ h. differ 0 (rank_of (fin s m e)) (inside top s (units_of (fin s m e)) (units_below_top s m e f)).0 (sym h))
 eq_by_rank (fin s m e) (inf false) p q f g = no_eq (rank_of (fin s m e)) (top + top) (differ (rank_of (fin s m e)) (top + top) (inside top s (units_of (fin s m e)) (units_below_top s m e f)).1)
 eq_by_rank (fin s m e) (fin t n d) p q f g = eq_fin s m e t n d f g
+eq_by_rank nan y p q f g = elim p [ ]
+eq_by_rank (inf false) nan p q f g = elim q [ ]
+eq_by_rank (inf true) nan p q f g = elim q [ ]
+eq_by_rank (fin s m e) nan p q f g = elim q [ ]
 
 pub le_by_rank : (x y : Float) → T (not (is_nan x)) → T (not (is_nan y)) → T (fits binary64 x) → T (fits binary64 y) → le x y ≡ leb (rank_of x) (rank_of y)
 unfolding le

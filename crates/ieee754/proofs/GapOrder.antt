@@ -117,6 +117,9 @@ module _ (n : ℕ) (d : ℤ) (f : T (fits binary64 (fin false (suc n) d))) where
   scaled_sign_clear : (x : Float) → T (sign_clear x) → T (fits binary64 x) → T (sign_clear (mul binary64 x scale))
   scaled_sign_clear (inf false) c fx = subst (λ (z : Float). T (sign_clear z)) (sym scaled_infinity) tt
   scaled_sign_clear (fin false m e) c fx = subst (λ (z : Float). T (sign_clear z)) (sym (product_of_units m e (suc n) d fx f)) (round_sign_clear (units_of (fin false m e) * units_of scale) (D * D))
+  scaled_sign_clear nan c fx = elim c [ ]
+  scaled_sign_clear (inf true) c fx = elim c [ ]
+  scaled_sign_clear (fin true m e) c fx = elim c [ ]
 
   -- x ≤ y gives k x ≤ k y, as computed
   pub scaling_keeps_order : (x y : Float) → T (sign_clear x) → T (sign_clear y) → T (fits binary64 x) → T (fits binary64 y) → T (le x y) → T (le (mul binary64 x scale) (mul binary64 y scale))
@@ -127,3 +130,10 @@ module _ (n : ℕ) (d : ℤ) (f : T (fits binary64 (fin false (suc n) d))) where
       (subst (λ (z : Float). T (le (round binary64 false (units_of (fin false m e) * units_of scale) (D * D)) z)) (sym (product_of_units i j (suc n) d fy f))
       (round_mono binary64 (units_of (fin false m e) * units_of scale) (D * D) (units_of (fin false i j) * units_of scale) (D * D) (mul-pos (pow_pos 1074) (pow_pos 1074)) (mul-pos (pow_pos 1074) (pow_pos 1074))
       (mul-le-mul_right (D * D) (mul-le-mul_right (units_of scale) (le→units (fin false m e) (fin false i j) tt tt fx fy h)))))
+  scaling_keeps_order x nan c c' fx fy h = elim c' [ ]
+  scaling_keeps_order x (inf true) c c' fx fy h = elim c' [ ]
+  scaling_keeps_order nan (fin _ i j) c c' fx fy h = elim c [ ]
+  scaling_keeps_order (inf false) (fin true i j) c c' fx fy h = elim c' [ ]
+  scaling_keeps_order (inf true) (fin _ i j) c c' fx fy h = elim c [ ]
+  scaling_keeps_order (fin false m e) (fin true i j) c c' fx fy h = elim c' [ ]
+  scaling_keeps_order (fin true m e) (fin _ i j) c c' fx fy h = elim c [ ]

@@ -1,5 +1,5 @@
 -- Minimum, maximum, clamp and absolute value by the tests that the code makes. Assumes nothing.
-use mathlib.Core.Bool.{Bool, true, false, cond, ◌||◌, true≢false, false≢true}
+use mathlib.Core.Bool.{Bool, true, false, cond, true≢false, false≢true}
 use mathlib.Core.Path.{◌≡◌, refl, sym, ap, ◌∙◌, subst}
 use Prim.Native.Nat.{zero, suc, ◌+◌, ◌*◌}
 use native.Mathlib.Nat.{zero-lt-suc, mul-pos}

@@ -29,6 +29,7 @@ unfolding is_nan le
 number_inf (inf true) n = tt
 number_inf (inf false) n = tt
 number_inf (fin s m e) n = tt
+number_inf nan n = elim n [ ]
 
 -- ---- the order of differences
 -- fl(u - v) is at most 0, or at most fl(x - y)

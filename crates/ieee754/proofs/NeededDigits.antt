@@ -9,7 +9,7 @@ use native.Mathlib.Omega.{arith}
 use lib.Dec.{T, eqb, eqb→eq, eqb_refl, lit<}
 use lib.Ieee.{Float, binary64, fits, size}
 use lib.Ieee.Bits.{is_true}
-use lib.Ieee.Digits.{size-lt, size_reaches, size-le}
+use lib.Ieee.Digits.{size-lt, size-le}
 use lib.Ieee.Positive.{positive}
 use lib.Pow.{pow-add, pow_pos, pow_mono, shl_lt}
 use Rattle.ieee754.specs.Root.{units_of, square, root_of}

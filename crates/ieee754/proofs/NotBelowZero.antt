@@ -36,6 +36,9 @@ clear_not_below (fin false m k) c nan e = unfold lt in refl
 clear_not_below (fin false m k) c (inf t) e = absurd (false≢true (unfold eq in e))
 clear_not_below (fin false m k) c (fin true n d) e = unfold lt in refl
 clear_not_below (fin false m k) c (fin false n d) e = unfold lt in none_below (m * up k * down d) (n * up d) (down k) (zero_value false n d e)
+clear_not_below nan c z e = elim c [ ]
+clear_not_below (inf true) c z e = elim c [ ]
+clear_not_below (fin true m k) c z e = elim c [ ]
 
 pub nan_not_below : NotBelow nan
 unfolding lt

@@ -92,6 +92,8 @@ positive_finite_pattern s f p = positive_finite_of (to_bits binary64 s) (subst (
 pub units_of_value : (s : Float) (n : ℕ) → HasValue s false n (2 ^ 1074) → units_of s ≡ n
 unfolding units_of
 units_of_value (fin s m e) n v = ap (λ (z : ℕ). z / down e) v.1 ∙ mul-div_cancel n (down_pos e)
+units_of_value nan n v = elim v [ ]
+units_of_value (inf _) n v = elim v [ ]
 
 pub units_of_float : (s : Float) → T (fits binary64 s) → T (positive s) → units_of s ≡ units_of_pattern (to_bits binary64 s)
 units_of_float s f p = units_of_value s (units_of_pattern (to_bits binary64 s)) (subst (λ (z : Float). HasValue z false (units_of_pattern (to_bits binary64 s)) (2 ^ 1074)) (of_bits-to_bits binary64 s f) (pattern_value (to_bits binary64 s) (positive_finite_pattern s f p).below))

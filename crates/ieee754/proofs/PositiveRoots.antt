@@ -57,6 +57,10 @@ unfolding mul
 mul_is (fin true m e) y a b c d v w = absurd (true≢false v.0)
 mul_is (fin false m e) (fin true n g) a b c d v w = absurd (true≢false w.0)
 mul_is (fin false m e) (fin false n g) a b c d v w = refl
+mul_is Ieee.nan y a b c d v w = elim v [ ]
+mul_is (Ieee.inf _) y a b c d v w = elim v [ ]
+mul_is (fin false m e) Ieee.nan a b c d v w = elim w [ ]
+mul_is (fin false m e) (Ieee.inf _) a b c d v w = elim w [ ]
 
 pub mul_values : (x y : Float) (a b c d : ℕ) → 0 < c → 0 < d → HasValue x false a c → HasValue y false b d → mul binary64 x y ≡ round binary64 false (a * b) (c * d)
 mul_values x y a b c d C C' v w =

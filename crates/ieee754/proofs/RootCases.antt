@@ -20,6 +20,8 @@ unfolding root_of
 root_of_positive (fin true m e) p = absurd p
 root_of_positive (fin false zero e) p = absurd p
 root_of_positive (fin false (suc m) e) p = refl
+root_of_positive nan p = elim p [ ]
+root_of_positive (inf _) p = elim p [ ]
 
 pub root_of_positive_pattern : (s : Float) → T (fits binary64 s) → T (positive s) → of_bits binary64 (root_pattern (units_of_pattern (to_bits binary64 s))) ≡ root_of s
 root_of_positive_pattern s f p = ap (λ (z : ℕ). of_bits binary64 (root_pattern z)) (sym (units_of_float s f p)) ∙ root_of_positive s p
@@ -83,6 +85,8 @@ positive_otherwise (fin false (suc m) e) a b c d = lt→ltb 0 (suc m) (zero-lt-s
 pub positive_number : (s : Float) → T (positive s) → T (not (is_nan s))
 unfolding is_nan
 positive_number (fin s m e) p = tt
+positive_number nan p = elim p [ ]
+positive_number (inf _) p = elim p [ ]
 
 -- above 0 and below infinity is positive and finite
 pub positive_by_tests : (s : Float) → positive s ≡ (lt (of_bits binary64 0) s && lt s (div binary64 (of_bits binary64 0x3ff0_0000_0000_0000) (of_bits binary64 0)))

@@ -25,6 +25,8 @@ use Rattle.ieee754.proofs.SumsAndSquares.{square_sign_clear_positive}
 value_sign_clear : (x : Float) (a c : ℕ) → HasValue x false a c → T (sign_clear x)
 value_sign_clear (fin true m e) a c v = absurd (true≢false v.0)
 value_sign_clear (fin false m e) a c v = tt
+value_sign_clear nan a c v = elim v [ ]
+value_sign_clear (inf _) a c v = elim v [ ]
 
 above : (m : ℕ) (e : ℤ) → T (positive (fin false (suc m) e))
 above m e = lt→ltb 0 (suc m) (zero-lt-suc m)
@@ -36,6 +38,9 @@ pub root_sign_clear : (x : Float) → T (sign_clear x) → T (fits binary64 x) �
 root_sign_clear (inf false) c f = unfold root_of in tt
 root_sign_clear (fin false zero e) c f = unfold root_of in tt
 root_sign_clear (fin false (suc m) e) c f = value_sign_clear (root_of (fin false (suc m) e)) (units_of_pattern (root_pattern (units_of (fin false (suc m) e)))) D (root_value (fin false (suc m) e) f (above m e))
+root_sign_clear nan c f = elim c [ ]
+root_sign_clear (inf true) c f = elim c [ ]
+root_sign_clear (fin true _ e) c f = elim c [ ]
 
 zero_square : root_of (mul binary64 (root_of positive_zero) (root_of positive_zero)) ≡ root_of positive_zero
 unfolding root_of mul round
@@ -46,6 +51,9 @@ pub root_of_square : (x : Float) → T (sign_clear x) → T (fits binary64 x) �
 root_of_square (inf false) c f = unfold root_of mul in refl
 root_of_square (fin false zero e) c f = subst (λ (z : Float). root_of (mul binary64 (root_of z) (root_of z)) ≡ root_of z) (sym (zero_is_positive_zero e f)) zero_square
 root_of_square (fin false (suc m) e) c f = root_of_square_positive (fin false (suc m) e) f (above m e)
+root_of_square nan c f = elim c [ ]
+root_of_square (inf true) c f = elim c [ ]
+root_of_square (fin true _ e) c f = elim c [ ]
 
 pub root_fits : (x : Float) → T (fits binary64 x) → T (fits binary64 (root_of x))
 root_fits nan f = unfold root_of in f
@@ -70,6 +78,14 @@ root_keeps_order (inf false) (fin false n d) c k f g h = absurd (unfold le in h)
 root_keeps_order (fin false zero e) (fin false n d) c k f g h = subst (λ (z : Float). T (le z (root_of (fin false n d)))) (sym (root_of_zero false e)) (zero_below_clear e (root_of (fin false n d)) (root_sign_clear (fin false n d) k g) f (root_fits (fin false n d) g))
 root_keeps_order (fin false (suc m) e) (fin false zero d) c k f g h = absurd (not-le_of_lt (units_positive (fin false (suc m) e) f (above m e)) (le_trans (le→units (fin false (suc m) e) (fin false zero d) tt tt f g h) (le_of_eq (units_of_zero false d))))
 root_keeps_order (fin false (suc m) e) (fin false (suc n) d) c k f g h = root_keeps_order_positive (fin false (suc m) e) (fin false (suc n) d) f g (above m e) (above n d) h
+root_keeps_order x nan c d f g h = elim d [ ]
+root_keeps_order x (inf true) c d f g h = elim d [ ]
+root_keeps_order nan (fin _ n d) c k f g h = elim c [ ]
+root_keeps_order (inf false) (fin true n d) c k f g h = elim k [ ]
+root_keeps_order (inf true) (fin _ n d) c k f g h = elim c [ ]
+root_keeps_order (fin false zero e) (fin true n d) c k f g h = elim k [ ]
+root_keeps_order (fin false (suc m) e) (fin true n d) c k f g h = elim k [ ]
+root_keeps_order (fin true _ e) (fin _ n d) c k f g h = elim c [ ]
 
 -- ---- the two forms that a sweep uses, for the root r of s: what is at most r², as computed, has a root of at most r, and what is at least r² one of at least r
 pub root_at_most : (s t : Float) → T (sign_clear s) → T (sign_clear t) → T (fits binary64 s) → T (fits binary64 t) → T (le t (mul binary64 (root_of s) (root_of s))) → T (le (root_of t) (root_of s))

@@ -58,6 +58,13 @@ le→units (fin false m e) (fin false n d) c k f g h =
 
     b : (w p q n u : ℕ) → n * u ≡ w * q → n * p * u ≡ w * (p * q)
     b w p q n u e = mul_right_comm n p u ∙ ap (λ (z : ℕ). z * p) e ∙ mul_assoc w q p ∙ ap (λ (z : ℕ). w * z) (mul_comm q p)
+le→units x nan c d f g h = elim d [ ]
+le→units x (inf true) c d f g h = elim d [ ]
+le→units nan (fin _ n d) c k f g h = elim c [ ]
+le→units (inf false) (fin true n d) c k f g h = elim k [ ]
+le→units (inf true) (fin _ n d) c k f g h = elim c [ ]
+le→units (fin false m e) (fin true n d) c k f g h = elim k [ ]
+le→units (fin true m e) (fin _ n d) c k f g h = elim c [ ]
 
 pub units→le : (x y : Float) → T (sign_clear x) → T (sign_clear y) → T (fits binary64 x) → T (fits binary64 y) → units_or_top x ≤ units_or_top y → T (le x y)
 unfolding le
@@ -66,6 +73,15 @@ units→le (fin false m e) (inf false) c d f g h = tt
 units→le (inf false) (fin false n d) c k f g h = absurd (not-le_of_lt (units_below_top false n d g) h)
 units→le (fin false m e) (fin false n d) c k f g h =
     le_of_values (fin false m e) (fin false n d) (units_of (fin false m e)) D (units_of (fin false n d)) D (pow_pos 1074) (pow_pos 1074) (refl, units_exact false m e f) (refl, units_exact false n d g) (mul-le-mul_right D h)
+units→le nan y c d f g h = elim c [ ]
+units→le (inf false) nan c d f g h = elim d [ ]
+units→le (inf false) (inf true) c d f g h = elim d [ ]
+units→le (inf false) (fin true n d) c k f g h = elim k [ ]
+units→le (inf true) y c d f g h = elim c [ ]
+units→le (fin false m e) nan c d f g h = elim d [ ]
+units→le (fin false m e) (inf true) c d f g h = elim d [ ]
+units→le (fin false m e) (fin true n d) c k f g h = elim k [ ]
+units→le (fin true m e) y c d f g h = elim c [ ]
 
 -- a zero is at most any number with a clear sign
 pub zero_below_clear : (e : ℤ) (y : Float) → T (sign_clear y) → T (fits binary64 (fin false 0 e)) → T (fits binary64 y) → T (le (fin false 0 e) y)
@@ -93,16 +109,21 @@ pub below_infinity : (x : Float) → T (sign_clear x) → T (le x (inf false))
 unfolding le
 below_infinity (inf false) c = tt
 below_infinity (fin false m e) c = tt
+below_infinity nan c = elim c [ ]
+below_infinity (inf true) c = elim c [ ]
+below_infinity (fin true m e) c = elim c [ ]
 
 pub sign_clear_number : (y : Float) → T (sign_clear y) → T (not (is_nan y))
 unfolding is_nan
 sign_clear_number (inf s) c = tt
 sign_clear_number (fin s m e) c = tt
+sign_clear_number nan c = elim c [ ]
 
 pub absolute_sign_clear : (x : Float) → T (not (is_nan x)) → T (sign_clear (absolute_of x))
 unfolding is_nan
 absolute_sign_clear (inf s) p = tt
 absolute_sign_clear (fin s m e) p = tt
+absolute_sign_clear nan p = elim p [ ]
 
 pub absolute_nan : (x : Float) → is_nan (absolute_of x) ≡ is_nan x
 unfolding is_nan

@@ -58,6 +58,9 @@ slack_above (fin false (suc m) e) c f =
   where
     more : (w k u : ℕ) → u ≤ k → w * (u * u) ≤ w * k * u
     more w k u h = le_trans (mul-le-mul_left w (mul-le-mul_right u h)) (le_of_eq (sym (mul_assoc w k u)))
+slack_above lib.Ieee.nan c f = elim c [ ]
+slack_above (inf mathlib.Core.Bool.true) c f = elim c [ ]
+slack_above (fin mathlib.Core.Bool.true _ e) c f = elim c [ ]
 
 -- ---- 1 - 2 ^ -49 (document 01, closest sweep)
 abbrev pub one_minus_slack : Float
@@ -90,3 +93,6 @@ slack_below (fin false (suc m) e) c f =
   where
     less : (w k u : ℕ) → k ≤ u → w * k * u ≤ w * (u * u)
     less w k u h = le_trans (le_of_eq (mul_assoc w k u)) (mul-le-mul_left w (mul-le-mul_right u h))
+slack_below lib.Ieee.nan c f = elim c [ ]
+slack_below (inf mathlib.Core.Bool.true) c f = elim c [ ]
+slack_below (fin mathlib.Core.Bool.true _ e) c f = elim c [ ]

@@ -45,6 +45,15 @@ sum_sign_clear (inf false) (inf false) c d f g = unfold add in tt
 sum_sign_clear (inf false) (fin false n d) c k f g = unfold add in tt
 sum_sign_clear (fin false m e) (inf false) c k f g = unfold add in tt
 sum_sign_clear (fin false m e) (fin false n d) c k f g = subst (λ (z : Float). T (sign_clear z)) (sym (sum_of_units m e n d f g)) (round_sign_clear (units_of (fin false m e) + units_of (fin false n d)) D)
+sum_sign_clear nan y c d f g = elim c [ ]
+sum_sign_clear (inf false) nan c d f g = elim d [ ]
+sum_sign_clear (inf false) (inf true) c d f g = elim d [ ]
+sum_sign_clear (inf false) (fin true n d) c k f g = elim k [ ]
+sum_sign_clear (inf true) y c d f g = elim c [ ]
+sum_sign_clear (fin false m e) nan c k f g = elim k [ ]
+sum_sign_clear (fin false m e) (inf true) c k f g = elim k [ ]
+sum_sign_clear (fin false m e) (fin true n d) c k f g = elim k [ ]
+sum_sign_clear (fin true m e) y c k f g = elim c [ ]
 
 -- x ≤ x' and y ≤ y' give x + y ≤ x' + y'
 pub sum_keeps_order : (x x' y y' : Float) → T (sign_clear x) → T (sign_clear x') → T (sign_clear y) → T (sign_clear y') → T (fits binary64 x) → T (fits binary64 x') → T (fits binary64 y) → T (fits binary64 y')
@@ -60,6 +69,23 @@ sum_keeps_order (fin false m₀ e₀) (fin false m e) (fin false n₀ d₀) (fin
     subst (λ (z : Float). T (le z (add binary64 (fin false m e) (fin false n d')))) (sym (sum_of_units m₀ e₀ n₀ d₀ f g))
     (subst (λ (z : Float). T (le (round binary64 false (units_of (fin false m₀ e₀) + units_of (fin false n₀ d₀)) D) z)) (sym (sum_of_units m e n d' f' g'))
     (round_mono binary64 (units_of (fin false m₀ e₀) + units_of (fin false n₀ d₀)) D (units_of (fin false m e) + units_of (fin false n d')) D (pow_pos 1074) (pow_pos 1074) (mul-le-mul_right D (add_le_add (units_of (fin false m₀ e₀)) (units_of (fin false n₀ d₀)) (units_of (fin false m e)) (units_of (fin false n d')) x y))))
+sum_keeps_order x nan y _ a b c d f f' g g' h k = elim b [ ]
+sum_keeps_order x (inf false) y nan a b c d f f' g g' h k = elim d [ ]
+sum_keeps_order x (inf false) y (inf true) a b c d f f' g g' h k = elim d [ ]
+sum_keeps_order x (inf false) y (fin true n d') a b c d f f' g g' h k = elim d [ ]
+sum_keeps_order x (inf true) y _ a b c d f f' g g' h k = elim b [ ]
+sum_keeps_order x (fin false m e) y nan a b c d f f' g g' h k = elim d [ ]
+sum_keeps_order x (fin false m e) y (inf true) a b c d f f' g g' h k = elim d [ ]
+sum_keeps_order nan (fin false m e) y (fin _ n d') a b c d f f' g g' h k = elim a [ ]
+sum_keeps_order (inf false) (fin false m e) y (fin true n d') a b c d f f' g g' h k = elim d [ ]
+sum_keeps_order (inf true) (fin false m e) y (fin _ n d') a b c d f f' g g' h k = elim a [ ]
+sum_keeps_order (fin false m₀ e₀) (fin false m e) nan (fin _ n d') a b c d f f' g g' h k = elim c [ ]
+sum_keeps_order (fin false m₀ e₀) (fin false m e) (inf false) (fin true n d') a b c d f f' g g' h k = elim d [ ]
+sum_keeps_order (fin false m₀ e₀) (fin false m e) (inf true) (fin _ n d') a b c d f f' g g' h k = elim c [ ]
+sum_keeps_order (fin false m₀ e₀) (fin false m e) (fin false n₀ d₀) (fin true n d') a b c d f f' g g' h k = elim d [ ]
+sum_keeps_order (fin false m₀ e₀) (fin false m e) (fin true n₀ d₀) (fin _ n d') a b c d f f' g g' h k = elim c [ ]
+sum_keeps_order (fin true m₀ e₀) (fin false m e) y (fin _ n d') a b c d f f' g g' h k = elim a [ ]
+sum_keeps_order x (fin true m e) y _ a b c d f f' g g' h k = elim b [ ]
 
 -- ---- products with a clear sign, where no zero meets an infinity
 pub product_of_units : (m : ℕ) (e : ℤ) (n : ℕ) (d : ℤ) → T (fits binary64 (fin false m e)) → T (fits binary64 (fin false n d))
@@ -72,6 +98,9 @@ product_of_units m e n d f g =
 pub square_sign_clear_positive : (x : Float) → T (sign_clear x) → T (fits binary64 x) → T (sign_clear (mul binary64 x x))
 square_sign_clear_positive (inf false) c f = unfold mul in tt
 square_sign_clear_positive (fin false m e) c f = subst (λ (z : Float). T (sign_clear z)) (sym (product_of_units m e m e f f)) (round_sign_clear (units_of (fin false m e) * units_of (fin false m e)) (D * D))
+square_sign_clear_positive nan c f = elim c [ ]
+square_sign_clear_positive (inf true) c f = elim c [ ]
+square_sign_clear_positive (fin true m e) c f = elim c [ ]
 
 pub square_keeps_order_positive : (x y : Float) → T (sign_clear x) → T (sign_clear y) → T (fits binary64 x) → T (fits binary64 y) → T (le x y) → T (le (mul binary64 x x) (mul binary64 y y))
 square_keeps_order_positive x (inf false) c d f g h = unfold mul in below_infinity (mul binary64 x x) (square_sign_clear_positive x c f)
@@ -81,6 +110,13 @@ square_keeps_order_positive (fin false m e) (fin false n d) c k f g h =
     subst (λ (z : Float). T (le z (mul binary64 (fin false n d) (fin false n d)))) (sym (product_of_units m e m e f f))
     (subst (λ (z : Float). T (le (round binary64 false (units_of (fin false m e) * units_of (fin false m e)) (D * D)) z)) (sym (product_of_units n d n d g g))
     (round_mono binary64 (units_of (fin false m e) * units_of (fin false m e)) (D * D) (units_of (fin false n d) * units_of (fin false n d)) (D * D) (mul-pos (pow_pos 1074) (pow_pos 1074)) (mul-pos (pow_pos 1074) (pow_pos 1074)) (mul-le-mul_right (D * D) (mul-le-mul w w))))
+square_keeps_order_positive x nan c d f g h = elim d [ ]
+square_keeps_order_positive x (inf true) c d f g h = elim d [ ]
+square_keeps_order_positive nan (fin _ n d) c k f g h = elim c [ ]
+square_keeps_order_positive (inf false) (fin true n d) c k f g h = elim k [ ]
+square_keeps_order_positive (inf true) (fin _ n d) c k f g h = elim c [ ]
+square_keeps_order_positive (fin false m e) (fin true n d) c k f g h = elim k [ ]
+square_keeps_order_positive (fin true m e) (fin _ n d) c k f g h = elim c [ ]
 
 -- x² = |x|²
 pub square_of_absolute : (x : Float) → mul binary64 x x ≡ mul binary64 (absolute_of x) (absolute_of x)

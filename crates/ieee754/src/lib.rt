@@ -1,4 +1,6 @@
 // The square root of an f64, rounded once, from its bits; minimum, maximum, clamp, absolute value; and bit patterns.
+#![tactic(auto)]
+
 ghost use Rattle.std.specs.Prelude.{◌≡◌, ℕ, ◌+◌, ◌*◌, ◌^◌, ◌≤◌, ◌<◌, T};
 ghost use Rattle.std.specs.Float.{binary64};
 ghost use Rattle.std.specs.Float.Ieee.{of_bits, to_bits};
@@ -10,7 +12,7 @@ ghost use Rattle.ieee754.specs.InnerRoot.{RootDigits, DigitTurns, is_integer_roo
 ghost use Rattle.ieee754.specs.InnerRoot.{PositiveFinite, Normalized, EvenExponent, units_of_pattern, root_pattern, rounded_root};
 
 // A whole root, its remainder, and how many of its digits were looked for.
-#[derive(Drop)]
+#[derive(Clone, Copy)]
 struct DigitRoot {
     digits: u64,
     remainder: u64,
@@ -59,14 +61,14 @@ fn root_digits(m: u64) -> DigitRoot
 }
 
 // A whole root and its remainder.
-#[derive(Drop)]
+#[derive(Clone, Copy)]
 struct IntegerRoot {
     digits: u64,
     remainder: u64,
 }
 
 // Whether a number is the whole root, and the remainder if so, else 0.
-#[derive(Drop)]
+#[derive(Clone, Copy)]
 struct Trial {
     holds: bool,
     remainder: u64,
@@ -160,7 +162,7 @@ fn integer_root(m: u64) -> IntegerRoot
 }
 
 // A significand of 53 binary digits and an exponent.
-#[derive(Drop)]
+#[derive(Clone, Copy)]
 struct Significand {
     digits: u64,
     exponent: u64,
@@ -192,7 +194,7 @@ fn normalized(b: u64) -> Significand
 }
 
 // What a root is taken of: m, and the exponent of the root.
-#[derive(Drop)]
+#[derive(Clone, Copy)]
 struct Radicand {
     m: u64,
     exponent: u64,
@@ -259,7 +261,7 @@ pub fn root(s: f64) -> f64
 }
 
 // A root's pattern, and how many of its digits are needed.
-#[derive(Drop)]
+#[derive(Clone, Copy)]
 struct PatternAndDigits {
     pattern: u64,
     digits: u64,
@@ -280,7 +282,7 @@ fn pattern_by_digits(b: u64) -> PatternAndDigits
 }
 
 // A square root, and the digits needed.
-#[derive(Drop)]
+#[derive(Clone, Copy)]
 pub struct RootAndDigits {
     pub root: f64,
     pub digits: u32,

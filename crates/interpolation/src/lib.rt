@@ -1,6 +1,8 @@
 // The point at a fraction of a line's length: document 01's interpolation, for every input.
 // Undecided in its contracts is only the payload, sign included, of a NaN in the workspace; output bytes are
 // wholly decided.
+#![tactic(auto)]
+
 ghost use Rattle.std.specs.Prelude.{◌≡◌, false, ◌+◌, ◌*◌, ◌≤◌, ◌<◌, length};
 ghost use mathlib.Core.List.{foldl};
 ghost use Rattle.std.proofs.Math.Option.{some};
@@ -21,14 +23,14 @@ use refusals::Refusal;
 use workspace::{FLOATS_PER_COORDINATE, NUMBERS_PER_RUN};
 
 // A point blob in the output, or a refusal.
-#[derive(Drop)]
+#[derive(Clone, Copy)]
 pub enum Interpolated {
     Blob,
     Refused(Refusal),
 }
 
 // A call that refuses nothing: where the geometry starts, its coordinates and runs, the SRID's bits; or the refusal.
-#[derive(Drop)]
+#[derive(Clone, Copy)]
 enum Checked {
     Accepted {
         at: usize,
@@ -40,7 +42,7 @@ enum Checked {
 }
 
 // The first segment's start, once there is one, and the lengths added so far.
-#[derive(Drop)]
+#[derive(Clone, Copy)]
 struct Measured {
     pub started: bool,
     pub start: Point,
@@ -48,7 +50,7 @@ struct Measured {
 }
 
 // The segment looked at, what is walked before and after it, and whether the search stops there.
-#[derive(Drop)]
+#[derive(Clone, Copy)]
 struct Search {
     pub found: bool,
     pub walked: f64,

@@ -1,5 +1,5 @@
 -- The number of items. Assumes nothing.
-use Prim.Native.Nat.{ℕ, ◌-◌, ◌≤◌}
+use Prim.Native.Nat.{ℕ, ◌≤◌}
 use native.Mathlib.Omega.{arith}
 use Rattle.items.specs.Inner.{item_count}
 use Rattle.items.specs.declared.Class.{Class}

@@ -34,21 +34,21 @@ taken (some best) w = there _
 
 all_taken : {s : Option Witness} → There s → (l : List Witness) → There (foldl (taking shorter) s l)
 all_taken h [] = h
-all_taken {s} h (w ∷ l) = all_taken (taken s w) l
+all_taken {s = s} h (w ∷ l) = all_taken {s = taking shorter s w} (taken s w) l
 
 -- what is there stays there
 module _ {X : Type 0} (skip : Option Witness → X → Bool) (step : Option Witness → X → Option Witness) (stays : (s : Option Witness) (x : X) → There s → There (step s x)) where
   skipping_there : {s : Option Witness} → There s → (l : List X) → There (skipping skip step s l)
   unfolding skipping
   skipping_there h [] = h
-  skipping_there {s} h (x ∷ l) = skipping_there (pick (skip s x) h (stays s x h)) l
+  skipping_there {s = s} h (x ∷ l) = skipping_there {s = cond (skip s x) s (step s x)} (pick (skip s x) h (stays s x h)) l
 
 -- ---- the box of all items
 
 unite_there : {s : Option Aabb} → There s → (l : List Item) → There (foldl unite_item s l)
 unfolding unite_item
 unite_there h [] = h
-unite_there (there box) (i ∷ l) = unite_there (there _) l
+unite_there (there box) (i ∷ l) = unite_there {s = unite_item (some box) i} (there _) l
 
 box_there : (b : Item) (rs : List Item) → There (box_of_items (b ∷ rs))
 unfolding box_of_items unite_item
@@ -62,6 +62,7 @@ module _ (candidates : Item → Item → List Witness) (offers : (a b : Item) �
     where
       go : (l : List Witness) → Offered l → There (foldl (taking shorter) s l)
       go (w ∷ l) offered = all_taken (taken s w) l
+      go [] x' = elim x' [ ]
 
   each_stays : (a : Item) (rs : List Item) {s : Option Witness} → There s → There (with_each_by box_of_item (offering candidates) a s rs)
   each_stays a rs h = skipping_there _ (offering candidates a) (λ s b k. item_there a b s) h rs

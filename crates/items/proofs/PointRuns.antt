@@ -6,7 +6,7 @@ use Prim.Native.Nat.{ℕ}
 use borrow.Author.Tests.{eqb-true}
 use Rattle.coords.specs.Parts.{Run, run, map_runs, is_point, is_line, is_face, PointRunsOnly, of_kind, segment_ends, vertices_of}
 use Rattle.primitives.specs.declared.Point.{Point}
-use Rattle.items.specs.Items.{point, point_items, segment_items, triangle_items, itemsOfKind, items_of}
+use Rattle.items.specs.Items.{point, point_items, segment_items, triangle_items, items_of_kind, items_of}
 
 no_line : (kind : ℕ) → is_point kind ≡ true → is_line kind ≡ false
 no_line kind e = rw (eqb-true kind 1 e)
@@ -26,7 +26,7 @@ only_points [] h = refl
 only_points (run kind ps ∷ rs) h = rw (h.0, only_points rs h.1) (sym (map-append point ps (of_kind is_point (λ cs. cs) rs)))
 
 -- and so no triangle
-pub no_triangles_of_points : (rs : List (Run Point)) → PointRunsOnly rs → itemsOfKind is_face triangle_items rs ≡ []
+pub no_triangles_of_points : (rs : List (Run Point)) → PointRunsOnly rs → items_of_kind is_face triangle_items rs ≡ []
 no_triangles_of_points rs h = none_of_kind is_face triangle_items no_face rs h
 
 pub items_of_points : (rs : List (Run Point)) → PointRunsOnly rs → items_of rs ≡ map point (vertices_of rs)

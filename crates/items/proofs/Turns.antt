@@ -10,7 +10,7 @@ use Rattle.coords.specs.Parts.{segments_by}
 use Rattle.workspace.specs.Workspace.{numbers_per_run}
 use Rattle.parts.specs.Stored.{stored_point, points_from, runs_from, run_count, kind_at, count_at}
 use Rattle.parts.proofs.Turns.{runs_next, runs_none}
-use Rattle.items.specs.Items.{Item, segment, triangle, point_items, segment_items, triangle_items, itemsOfKind}
+use Rattle.items.specs.Items.{Item, segment, triangle, point_items, segment_items, triangle_items, items_of_kind}
 use Rattle.items.specs.Inner.{is_of_class, items_by, class_items, item_count, item_at}
 use Rattle.items.specs.declared.Class.{Class}
 use Rattle.items.specs.declared.Class.TheVariants.{Points, Segments, Triangles}
@@ -98,16 +98,16 @@ module _ (class : Class) (floats : List Float) (table : List ℕ) (at r : ℕ) (
   -- a run of the class; t is s after its items
   pub turn_run : (joined : (s : S) (l m : List Item) → f (f s l) m ≡ f s (l ++ m)) {s t : S} → b ≡ true → t ≡ f s (items_by class (points_from floats at n))
       → f t (class_items class (runs_from floats (at + n) (drop (numbers_per_run * (r + 1)) table))) ≡ f s (class_items class (runs_from floats at (drop (numbers_per_run * r) table)))
-  unfolding itemsOfKind
+  unfolding items_of_kind
   turn_run joined e d = rw (runs_next table r h floats at, ← k-is, ← b-is, e, d, n-is) (joined _ _ _)
 
   -- a run of another class; t is s
   pub pass_run : {s t : S} → b ≡ false → t ≡ s
       → f t (class_items class (runs_from floats (at + n) (drop (numbers_per_run * (r + 1)) table))) ≡ f s (class_items class (runs_from floats at (drop (numbers_per_run * r) table)))
-  unfolding itemsOfKind
+  unfolding items_of_kind
   pass_run e d = rw (runs_next table r h floats at, ← k-is, ← b-is, e, d, n-is)
 
 -- no run is left
 pub no_items : (class : Class) (floats : List Float) (at : ℕ) (table : List ℕ) (r : ℕ) → run_count table ≤ r → class_items class (runs_from floats at (drop (numbers_per_run * r) table)) ≡ []
-unfolding itemsOfKind
+unfolding items_of_kind
 no_items class floats at table r h = rw (runs_none floats at table r h)

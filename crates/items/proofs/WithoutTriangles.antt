@@ -6,7 +6,7 @@ use Prim.Native.Nat.{ℕ}
 use Rattle.coords.specs.Parts.{Run, run, is_point, is_line, is_face, segments_by}
 use Rattle.primitives.specs.declared.Point.{Point}
 use Rattle.extremes.proofs.Lists.{Each, each_append, all_mapped}
-use Rattle.items.specs.Items.{Item, point, segment, triangle, point_items, segment_items, triangle_items, itemsOfKind, items_of}
+use Rattle.items.specs.Items.{Item, point, segment, triangle, point_items, segment_items, triangle_items, items_of_kind, items_of}
 
 abbrev pub NoTriangle : Item → Type 0
 NoTriangle (point p) = Unit {0}
@@ -14,10 +14,10 @@ NoTriangle (segment a b) = Unit {0}
 NoTriangle (triangle a b c) = ⊥
 
 -- items of runs that give no triangle
-of_kind : (test : ℕ → Bool) (f : List Point → List Item) → ((ps : List Point) → Each NoTriangle (f ps)) → (rs : List (Run Point)) → Each NoTriangle (itemsOfKind test f rs)
-unfolding itemsOfKind
+of_kind : (test : ℕ → Bool) (f : List Point → List Item) → ((ps : List Point) → Each NoTriangle (f ps)) → (rs : List (Run Point)) → Each NoTriangle (items_of_kind test f rs)
+unfolding items_of_kind
 of_kind test f none [] = tt
-of_kind test f none (run kind ps ∷ rs) = each_append NoTriangle (cond (test kind) (f ps) []) (itemsOfKind test f rs) (go (test kind)) (of_kind test f none rs)
+of_kind test f none (run kind ps ∷ rs) = each_append NoTriangle (cond (test kind) (f ps) []) (items_of_kind test f rs) (go (test kind)) (of_kind test f none rs)
   where
     go : (c : Bool) → Each NoTriangle (cond c (f ps) [])
     go true = none ps
@@ -33,8 +33,8 @@ segments [] = tt
 segments (p ∷ []) = tt
 segments (p ∷ q ∷ ps) = (tt, segments (q ∷ ps))
 
-pub no_triangle : (rs : List (Run Point)) → itemsOfKind is_face triangle_items rs ≡ [] → Each NoTriangle (items_of rs)
+pub no_triangle : (rs : List (Run Point)) → items_of_kind is_face triangle_items rs ≡ [] → Each NoTriangle (items_of rs)
 unfolding items_of
 no_triangle rs e =
-    each_append NoTriangle (itemsOfKind is_point point_items rs) _ (of_kind is_point point_items points rs)
-    (each_append NoTriangle (itemsOfKind is_line segment_items rs) _ (of_kind is_line segment_items segments rs) (rw e tt))
+    each_append NoTriangle (items_of_kind is_point point_items rs) _ (of_kind is_point point_items points rs)
+    (each_append NoTriangle (items_of_kind is_line segment_items rs) _ (of_kind is_line segment_items segments rs) (rw e tt))

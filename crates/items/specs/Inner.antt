@@ -3,7 +3,7 @@ use Rattle.std.specs.Prelude.{ℕ, ◌+◌, ◌-◌, Bool, List, Float}
 use Rattle.primitives.specs.declared.Point.{Point}
 use Rattle.coords.specs.Parts.{Run, is_point, is_line, is_face}
 use Rattle.parts.specs.Stored.{stored_point}
-use Rattle.items.specs.Items.{Item, point, segment, triangle, point_items, segment_items, triangle_items, itemsOfKind}
+use Rattle.items.specs.Items.{Item, point, segment, triangle, point_items, segment_items, triangle_items, items_of_kind}
 use Rattle.items.specs.declared.Class.{Class}
 use Rattle.items.specs.declared.Class.TheVariants.{Points, Segments, Triangles}
 use Rattle.items.specs.declared.Shape.{Shape}
@@ -31,7 +31,7 @@ items_by Triangles ps = triangle_items ps
 
 -- the items of a class in all runs
 abbrev pub class_items : Class → List (Run Point) → List Item
-class_items class rs = itemsOfKind (is_of_class class) (items_by class) rs
+class_items class rs = items_of_kind (is_of_class class) (items_by class) rs
 
 -- how many items of a class a run of n points gives
 abbrev pub item_count : Class → ℕ → ℕ

@@ -6,7 +6,7 @@ use Rattle.primitives.specs.declared.Point.{Point}
 use Rattle.primitives.specs.declared.Aabb.{Aabb}
 use Rattle.primitives.specs.Boxes.{box_of_point, union_of}
 -- the items of the runs of a kind: what these runs come to
-unfoldable pub use Rattle.coords.specs.Parts.{of_kind as itemsOfKind}
+unfoldable pub use Rattle.coords.specs.Parts.{of_kind as items_of_kind}
 
 pub data Item : Type 0 where
   point : Point → Item
@@ -32,7 +32,7 @@ triangle_items (a ∷ ps) = segments_by (triangle a) ps
 
 -- points, segments, triangles
 unfoldable pub items_of : List (Run Point) → List Item
-items_of rs = itemsOfKind is_point point_items rs ++ (itemsOfKind is_line segment_items rs ++ itemsOfKind is_face triangle_items rs)
+items_of rs = items_of_kind is_point point_items rs ++ (items_of_kind is_line segment_items rs ++ items_of_kind is_face triangle_items rs)
 
 -- ---- boxes
 

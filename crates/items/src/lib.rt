@@ -1,4 +1,6 @@
 // Items of the closest sweep, by value, and what two of them offer.
+#![tactic(auto)]
+
 ghost use Rattle.std.specs.Prelude.{◌≡◌, true, ◌+◌, ◌-◌, ◌*◌, ◌≤◌, ◌<◌, length};
 ghost use Rattle.workspace.specs.Workspace.{floats_per_coordinate};
 ghost use Rattle.primitives.specs.Boxes.{least_squared_gap};
@@ -14,7 +16,7 @@ use measures::{Triangle, UnrootedWitness};
 use primitives::{Aabb, Point};
 
 // The classes of items.
-#[derive(Drop)]
+#[derive(Clone, Copy)]
 pub enum Class {
     Points,
     Segments,
@@ -22,7 +24,7 @@ pub enum Class {
 }
 
 // An item by its class: a point is a, a segment a b, a triangle a b c.
-#[derive(Drop)]
+#[derive(Clone, Copy)]
 pub struct Shape {
     pub class: Class,
     pub a: Point,

@@ -11,9 +11,8 @@ use borrow.Author.Tests.{ltb-false}
 use Rattle.refusals.specs.Checks.{first_of}
 use Rattle.refusals.specs.declared.Refusal.{Refusal}
 use Rattle.refusals.proofs.Sides.{sided}
-use Rattle.gpb.specs.Header.{geometry_start, srid_of, header_checks_3d}
+use Rattle.gpb.specs.Header.{geometry_start, header_checks_3d}
 use Rattle.coords.specs.Refusals.{walk_checks}
-use Rattle.blob.specs.Blob.{walk_of_blob}
 use Rattle.blob.specs.Inner.{operand_of}
 use Rattle.blob.specs.declared.Operand.{Operand}
 use Rattle.blob.specs.declared.TopHeader.{TopHeader}
@@ -23,11 +22,11 @@ use Rattle.operands.specs.declared.Operands.{Operands}
 use Rattle.operands.specs.declared.Checked.{Checked}
 use Rattle.operands.specs.declared.Checked.TheVariants as checked
 use Rattle.outcomes.specs.Operations.{no_side}
-use Rattle.joining.specs.Joined.{own_bytes, joined_blob, deepest_of, srids_differ, nests_too_deep, both_checks, together_checks, join_checks}
+use Rattle.joining.specs.Joined.{own_bytes, joined_blob, srids_differ, nests_too_deep, both_checks, together_checks, join_checks}
 use Rattle.joining.specs.Inner.{BothRead}
 use Rattle.joining.proofs.Size.{joined_size}
 use Rattle.joining.proofs.Order.{first_header, second_header, first_walk, second_walk, no_refusal, none_of_blobs, srids_differ_lem, nests_too_deep_lem, output_too_short, output_long_enough, fits_where_none, of_the_blobs, of_the_join, none_of_join}
-use Rattle.joining.proofs.Own.{lies, first_too_deep, second_too_deep, neither_too_deep}
+use Rattle.joining.proofs.Own.{lies}
 
 -- ---- what an answer says
 

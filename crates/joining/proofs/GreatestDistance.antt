@@ -7,7 +7,7 @@ use Prim.Native.Nat.{ℕ, ◌*◌}
 use native.Mathlib.Nat.{le_antisymm}
 use lib.Dec.{T}
 use lib.ListN.{get_elem?}
-use lib.Ieee.{Float, inf, fin, binary64, mul, round, lt, le, fits}
+use lib.Ieee.{Float, nan, inf, fin, binary64, mul, round, lt, le, fits}
 use Rattle.ieee754.specs.Root.{units_of, root_of}
 use Rattle.ieee754.proofs.SignClear.{sign_clear, le→units}
 use Rattle.ieee754.proofs.SquaredRoot.{D}
@@ -36,6 +36,15 @@ same_square (fin false m e) (fin false n d) b c f g h k =
     let y = fin false n d in
     let same : units_of x ≡ units_of y = le_antisymm (le→units x y b c f g h) (le→units y x c b g f k) in
     product_of_units m e m e f f ∙ ap (λ (u : ℕ). round binary64 false (u * u) (D * D)) same ∙ sym (product_of_units n d n d g g)
+same_square nan y c d f g h k = elim c [ ]
+same_square (inf false) nan c d f g h k = elim d [ ]
+same_square (inf false) (inf true) c d f g h k = elim d [ ]
+same_square (inf false) (fin true n e) c d f g h k = elim d [ ]
+same_square (inf true) y c d f g h k = elim c [ ]
+same_square (fin false m e) nan c d f g h k = elim d [ ]
+same_square (fin false m e) (inf true) c d f g h k = elim d [ ]
+same_square (fin false m e) (fin true n d) b c f g h k = elim c [ ]
+same_square (fin true m e) y c d f g h k = elim c [ ]
 
 -- a root is the root of its square
 same_root : (s t : Float) → T (sign_clear s) → T (sign_clear t) → T (fits binary64 s) → T (fits binary64 t) → T (le (root_of s) (root_of t)) → T (le (root_of t) (root_of s)) → root_of s ≡ root_of t

@@ -1,5 +1,7 @@
 // Two blobs joined into one: a collection of both geometries behind a GeoPackage header (document 02, 4/13).
 // Output bytes are wholly decided; no workspace is lent.
+#![tactic(auto)]
+
 ghost use Rattle.std.specs.Prelude.{◌≡◌, ◌++◌, ◌+◌, ◌-◌, ◌≤◌, ltb, length, drop};
 ghost use Rattle.std.proofs.Math.Option.{none};
 ghost use Rattle.std.proofs.lemmas.List.Edits.{sets};

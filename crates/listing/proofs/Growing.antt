@@ -1,5 +1,5 @@
 -- A listing of no item, of one item more, and of some items of a whole. Assumes nothing.
-use mathlib.Core.Path.{◌≡◌, refl, sym, ap, ◌∙◌}
+use mathlib.Core.Path.{◌≡◌, refl, sym, ◌∙◌}
 use mathlib.Core.Bool.{Bool, true, false, cond}
 use mathlib.Core.List.{List, [], ◌∷◌, ◌++◌, foldl-append}
 use mathlib.Core.Option.{none, some}
@@ -17,7 +17,7 @@ use Rattle.primitives.specs.declared.Aabb.{Aabb}
 use Rattle.primitives.specs.Boxes.{union_of}
 use Rattle.parts.specs.Stored.{points_from, runs_from, run_count, kind_at, count_at}
 use Rattle.parts.proofs.Turns.{runs_next}
-use Rattle.items.specs.Items.{Item, itemsOfKind, box_of_item, unite_item, box_of_items}
+use Rattle.items.specs.Items.{Item, items_of_kind, box_of_item, unite_item, box_of_items}
 use Rattle.items.specs.Inner.{is_of_class, items_by, class_items, item_count, item_at}
 use Rattle.items.specs.declared.Class.{Class}
 use Rattle.items.proofs.Added.{AddedBut}
@@ -84,5 +84,5 @@ item_next class floats at n j h = sym (turn_item class floats at n ◌++◌ {s =
 -- run r, of n points and of kind k
 pub run_next : (class : Class) (floats : List Float) (table : List ℕ) (at r n k : ℕ) → r < run_count table → n ≡ count_at table r → k ≡ kind_at table r
     → class_items class (runs_from floats at (drop (numbers_per_run * r) table)) ≡ cond (is_of_class class k) (items_by class (points_from floats at n)) [] ++ class_items class (runs_from floats (at + n) (drop (numbers_per_run * (r + 1)) table))
-unfolding itemsOfKind
+unfolding items_of_kind
 run_next class floats table at r n k h n-is k-is = rw (runs_next table r h floats at, n-is, k-is)

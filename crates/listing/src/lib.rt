@@ -1,4 +1,6 @@
 // The items of a side, listed once: how many, the box of all, and of few items each one's box and place.
+#![tactic(auto)]
+
 ghost use Rattle.std.specs.Prelude.{◌≡◌, cond, [], ◌∷◌, ◌+◌, ◌*◌, ◌<◌, ◌≤◌, ltb, length};
 ghost use Rattle.std.proofs.lemmas.List.Edits.{sets};
 ghost use Rattle.workspace.specs.Workspace.{floats_per_coordinate};
@@ -18,7 +20,7 @@ pub const LISTED: usize = 16;
 
 // Item j of run r, which is of the class and whose points start at place at. In `blocks`: the items of the class from run r on, but for the
 // first j.
-#[derive(Drop)]
+#[derive(Clone, Copy)]
 pub struct Place {
     pub class: Class,
     pub r: usize,
@@ -27,7 +29,7 @@ pub struct Place {
 }
 
 // How many items there are, and the box of all if there is one.
-#[derive(Drop)]
+#[derive(Clone, Copy)]
 pub struct Listing {
     pub count: usize,
     pub all: Aabb,

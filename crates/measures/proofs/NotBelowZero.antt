@@ -3,7 +3,6 @@ use mathlib.Core.Bool.{Bool, true, false, cond}
 use lib.Dec.{T}
 use lib.Ieee.{inf, binary64, lt, le, eq, fits}
 use Rattle.ieee754.specs.MinMax.{positive_zero}
-use Rattle.ieee754.specs.Root.{root_of}
 use Rattle.ieee754.proofs.RootLaws.{root_fits}
 use Rattle.ieee754.proofs.NotBelowZero.{NotBelow, clear_not_below, root_not_below}
 use Rattle.ieee754.proofs.SumsAndSquares.{sum_of_squares_fits}

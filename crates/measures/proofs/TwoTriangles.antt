@@ -2,7 +2,7 @@
 use mathlib.Core.Path.{◌≡◌, refl, sym, ap, ◌∙◌}
 use mathlib.Core.Bool.{Bool, true, false, cond}
 use mathlib.Core.List.{List, ◌++◌, foldl}
-use mathlib.Core.Option.{Option, none}
+use mathlib.Core.Option.{Option}
 use lib.Ieee.{lt, eq, is_nan}
 use Rattle.ieee754.specs.MinMax.{positive_zero}
 use Rattle.primitives.specs.declared.Point.{Point}

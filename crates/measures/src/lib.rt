@@ -1,5 +1,7 @@
 // The pair measures: point, segment and triangle against each other. A sum of squares that can't beat the best so far needs no root,
 // so `pt_seg` and `seg_seg` give their witness with the root not taken, and `pt_tri` and `tri_tri` offer theirs to the best, one by one.
+#![tactic(auto)]
+
 ghost use Rattle.std.specs.Prelude.{◌≡◌, true, [], ◌∷◌, T};
 ghost use Rattle.std.specs.Float.{binary64};
 ghost use Rattle.std.specs.Float.Ieee.{fits};
@@ -16,7 +18,7 @@ use extremes::Best;
 use primitives::{Point, Witness};
 
 // Two points with the sum of squares of their distance: a witness whose root is not taken.
-#[derive(Drop)]
+#[derive(Clone, Copy)]
 pub struct UnrootedWitness {
     pub sum: f64,
     pub a: Point,
@@ -85,7 +87,7 @@ pub fn pt_seg(p: Point, a: Point, b: Point) -> UnrootedWitness
 }
 
 // The parameters of two segments' nearest points.
-#[derive(Drop)]
+#[derive(Clone, Copy)]
 pub struct Parameters {
     pub s: f64,
     pub t: f64,
@@ -201,7 +203,7 @@ fn inside_triangle(a: Point, b: Point, c: Point, foot: Point, n: Point) -> bool
 }
 
 // The foot of a perpendicular to a triangle's plane, and whether it lies inside the triangle.
-#[derive(Drop)]
+#[derive(Clone, Copy)]
 pub struct PlaneFoot {
     pub inside: bool,
     pub foot: Point,
@@ -226,7 +228,7 @@ pub fn plane_foot(p: Point, a: Point, b: Point, c: Point) -> PlaneFoot
 }
 
 // A filled triangle.
-#[derive(Drop)]
+#[derive(Clone, Copy)]
 pub struct Triangle {
     pub a: Point,
     pub b: Point,
@@ -249,7 +251,7 @@ pub fn offered(best: Best, s: UnrootedWitness, flip: bool) -> Best
 }
 
 // Whether each of three sums of squares is at least the best's.
-fn each_at_least_lem(least: f64, x: f64, y: f64, z: f64) -> bool
+fn each_at_least(least: f64, x: f64, y: f64, z: f64) -> bool
     ensures { result ≡ each_at_least least x y z }
 {
     if x >= least {
@@ -271,7 +273,7 @@ fn pt_edges(best: Best, p: Point, t: Triangle, flip: bool) -> Best
     let x = pt_seg(p, a, b);
     let y = pt_seg(p, b, c);
     let z = pt_seg(p, c, a);
-    if each_at_least_lem(best.sum, x.sum, y.sum, z.sum) {
+    if each_at_least(best.sum, x.sum, y.sum, z.sum) {
         return best;
     }
     let first = offered(best, x, flip);
@@ -320,7 +322,7 @@ pub fn seg_edges(best: Best, p: Point, q: Point, t: Triangle, closes: bool) -> B
         return offered(offered(best, x, false), z, false);
     }
     let y = seg_seg(p, q, b, c);
-    if each_at_least_lem(best.sum, x.sum, y.sum, z.sum) {
+    if each_at_least(best.sum, x.sum, y.sum, z.sum) {
         return best;
     }
     offered(offered(offered(best, x, false), y, false), z, false)

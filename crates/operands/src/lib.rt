@@ -1,4 +1,6 @@
 // The two blobs of an operation: checked in document 01's order, then read into lent memory.
+#![tactic(auto)]
+
 ghost use Rattle.std.specs.Prelude.{◌≡◌, length};
 ghost use Rattle.operands.specs.Operands.{workspaces, filled};
 ghost use Rattle.operands.specs.Inner.{checked_of, operands_of, HeadersRead, Ready};
@@ -7,14 +9,14 @@ use blob::{HeaderRead, Lent, Operand, OperandRead, RoomChecked, TopHeader};
 use refusals::Refusal;
 
 // Both operands, and the SRID's bits of the first.
-#[derive(Drop)]
+#[derive(Clone, Copy)]
 pub struct Operands {
     pub first: Operand,
     pub second: Operand,
     pub srid: u32,
 }
 
-#[derive(Drop)]
+#[derive(Clone, Copy)]
 pub enum Checked {
     Accepted(Operands),
     Refused(Refusal),

@@ -2,28 +2,26 @@
 -- side. Assumes nothing.
 use Prim.Native.Nat.{ℕ}
 use mathlib.Core.Path.{◌≡◌, refl, sym, ap, ◌∙◌}
-use mathlib.Core.List.{List, [], ◌++◌}
+use mathlib.Core.List.{List, ◌++◌}
 use mathlib.Core.Option.{Option, none, some}
 use lib.ListN.{length}
 use lib.Ieee.{Float}
 use Rattle.refusals.specs.Checks.{Check, first_of, on_side}
 use Rattle.refusals.specs.declared.Refusal.{Refusal}
 use Rattle.refusals.proofs.Sides.{first_on_side, first_of_two}
-use Rattle.gpb.specs.Header.{geometry_start, srid_of, header_checks_3d}
 use Rattle.gpb.specs.Written.{point_bytes}
 use Rattle.coords.specs.Walk.{Parsed, Geometry}
 use Rattle.coords.specs.Parts.{map_runs, walked_runs, coordinate_count, vertices_of}
 use Rattle.coords.specs.Refusals.{walk_checks}
 use Rattle.coords.proofs.Parts.{vertices_map, count_map, runs_map}
-use Rattle.blob.specs.Blob.{walk_of_blob, runs_of_blob}
+use Rattle.blob.specs.Blob.{runs_of_blob}
 use Rattle.blob.specs.Ignored.{SameButIgnored}
 use Rattle.blob.proofs.Ignored.{ignored_changes_nothing}
 use Rattle.parts.specs.Points.{point_of}
 use Rattle.primitives.specs.declared.Witness.{Witness}
-use Rattle.items.specs.Items.{items_of}
 use Rattle.operands.specs.Operands.{Workspaces, workspace_checks, operand_checks, lent_checks}
 use Rattle.outcomes.specs.Answers.{Report, answering}
-use Rattle.outcomes.specs.Operations.{outcome, tolerance_checks, rule_checks, output_checks, unless, vertex_points, items_of_blob, farthest_pair, closest_pair, distance_value, within_value, touching_value, blob_value, line_after, point_after, max_distance, fully_within, line_checks, longest_line, distance, within, intersects, closest_point, shortest_line}
+use Rattle.outcomes.specs.Operations.{outcome, tolerance_checks, rule_checks, output_checks, unless, vertex_points, farthest_pair, closest_pair, distance_value, within_value, touching_value, blob_value, max_distance, fully_within, line_checks, longest_line, distance, within, intersects, closest_point, shortest_line}
 use Rattle.outcomes.specs.Alike.{MeasuredAlike, SameZTest, AnswersAlike, PairsAnsweredAlike}
 
 -- ---- what is ignored of a blob

@@ -1,12 +1,12 @@
 -- The memory lent to a call: what stood there at entry, and what is left there at exit (document 01, Parts). Definitions only.
 use Rattle.std.specs.Prelude.{ℕ, List, [], Float}
 use denote.Triple.Both.{Both}
-use Rattle.std.specs.Borrow.{Bor}
+use Rattle.std.specs.Borrow.{MutBor}
 use Rattle.operands.specs.Operands.{Workspaces, workspaces}
 
 -- a slice that a call may write, as a contract names it: at entry and at exit
 abbrev pub Slice : Type 0 → Type 0
-Slice A = Both (Bor (List A)) (Bor (List A))
+Slice A = Both (MutBor (List A)) (MutBor (List A))
 
 -- the workspaces at entry
 abbrev pub lent : Slice Float → Slice ℕ → Slice Float → Slice ℕ → Workspaces

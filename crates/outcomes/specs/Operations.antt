@@ -1,7 +1,7 @@
 -- The outcome of each operation for every input: report, workspaces, output (document 01, "What the operations say" and the table; document 02, 3/13: the rule
 -- by which the closest sweep pairs items, 1 or 2).
 -- Undecided is only the payload, sign included, of a NaN in a workspace or in an answered number: the model of floats has one NaN. Definitions only.
-use Rattle.std.specs.Prelude.{ℕ, List, [], ◌∷◌, ◌++◌, map, Bool, false, cond, not, ◌||◌, length, drop, ltb, eqb, Float}
+use Rattle.std.specs.Prelude.{ℕ, List, [], ◌∷◌, ◌++◌, map, false, cond, not, ◌||◌, length, drop, ltb, eqb, Float}
 use Rattle.std.proofs.Math.Option.{Option, none, some}
 use Rattle.std.specs.Float.Ieee.{lt, le, eq}
 use Rattle.ieee754.specs.MinMax.{positive_zero}

@@ -12,7 +12,7 @@ use Rattle.parts.specs.Points.{point_of}
 use Rattle.coords.specs.Parts.{map_runs, is_face}
 use Rattle.blob.specs.Blob.{runs_of_blob}
 use Rattle.operands.specs.Operands.{Workspaces, lent_checks, filled}
-use Rattle.items.specs.Items.{triangle_items, itemsOfKind}
+use Rattle.items.specs.Items.{triangle_items, items_of_kind}
 use Rattle.items.specs.Closest.{closest_of}
 use Rattle.outcomes.specs.Answers.{answering, refused}
 use Rattle.outcomes.specs.Operations.{outcome, unless, items_of_blob, tolerance_checks, output_checks, line_checks, distance_value, within_value, touching_value, blob_value, point_after, line_after, distance, within, intersects, closest_point, shortest_line}
@@ -54,4 +54,4 @@ pub record AsWithoutRule (rule : ℕ) (a b : List ℕ) (w : Workspaces) : Type 0
 
 -- a blob whose faces give no triangle, or that has no face
 abbrev pub NoTriangles : List ℕ → Type 0
-NoTriangles s = itemsOfKind is_face triangle_items (map_runs point_of (runs_of_blob s)) ≡ []
+NoTriangles s = items_of_kind is_face triangle_items (map_runs point_of (runs_of_blob s)) ≡ []

@@ -33,12 +33,12 @@ pub record ReadsBack (output : List ℕ) (p : Pair Coordinate) : Type 0 where
   pub first : SameBits start p.left
   pub second : SameBits finish p.right
 
--- How a call tells its answer: an operation by a report, an export by its reply. `noLine` and `aLine` are what it tells
+-- How a call tells its answer: an operation by a report, an export by its reply. `no_line` and `a_line` are what it tells
 -- where there is no line and where one is written.
-module _ {R : Type 0} (noLine aLine : R) where
+module _ {R : Type 0} (no_line a_line : R) where
   -- the line is told, and reads back as the pair
   pub record LineBetween (told : R) (output : List ℕ) (p : Pair Coordinate) : Type 0 where
-    pub is_told : told ≡ aLine
+    pub is_told : told ≡ a_line
     pub reads_back : ReadsBack output p
 
   -- the pairs being those of the two blobs' vertices: none exactly when a blob has no vertex; and if there is a first pair
@@ -46,7 +46,7 @@ module _ {R : Type 0} (noLine aLine : R) where
   -- every other pair that is no NaN stands in the order (at most: the longest; at least: the shortest), skipped ones included
   abbrev pub FirstExtremeLine : (Float → Float → Bool) → List ℕ → List ℕ → R → List ℕ → Type 0
   FirstExtremeLine order a b told output =
-      Holds (distance_of point_of) order (vertices_of_blob a) (vertices_of_blob b) (told ≡ noLine) (LineBetween told output)
+      Holds (distance_of point_of) order (vertices_of_blob a) (vertices_of_blob b) (told ≡ no_line) (LineBetween told output)
 
   -- of an accepted longest-line call: `before` is the output lent to it, `output` the one after
   pub record LongestOfAll (a b : List ℕ) (w : Workspaces) (before : List ℕ) (told : R) (output : List ℕ) : Type 0 where

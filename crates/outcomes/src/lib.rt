@@ -1,6 +1,8 @@
 // What the 3D measures between two blobs answer: document 01's operations as definitions (specs/Operations), for every
 // input, and laws of them; and the last step of an operation, whichever pair it swept for: it answers by that pair (the
 // functions over Swept).
+#![tactic(auto)]
+
 ghost use Rattle.std.specs.Prelude.{◌≡◌, length};
 ghost use Rattle.std.specs.Float.Ieee.{le, eq};
 ghost use Rattle.ieee754.specs.MinMax.{positive_zero};
@@ -14,7 +16,7 @@ use primitives::Witness;
 use refusals::Refusal;
 
 // A number (may be NaN), none, or a refusal.
-#[derive(Drop)]
+#[derive(Clone, Copy)]
 pub enum Answer {
     Measured(f64),
     Nothing,
@@ -22,7 +24,7 @@ pub enum Answer {
 }
 
 // Yes, no, or a refusal.
-#[derive(Drop)]
+#[derive(Clone, Copy)]
 pub enum Decision {
     Yes,
     No,
@@ -30,7 +32,7 @@ pub enum Decision {
 }
 
 // A blob in the output, none, or a refusal.
-#[derive(Drop)]
+#[derive(Clone, Copy)]
 pub enum Written {
     Blob,
     Nothing,
@@ -38,7 +40,7 @@ pub enum Written {
 }
 
 // The pair that a sweep over both blobs found, with the SRID of side 1; none; or a refusal.
-#[derive(Drop)]
+#[derive(Clone, Copy)]
 pub enum Swept {
     Found { witness: Witness, srid: u32 },
     Nothing,

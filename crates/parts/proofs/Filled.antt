@@ -1,5 +1,5 @@
 -- What is read from a workspace is what was written to it. Assumes nothing.
-use mathlib.Core.Path.{◌≡◌, refl, ap}
+use mathlib.Core.Path.{◌≡◌, refl, ap, sym, ◌∙◌}
 use mathlib.Core.List.{List, [], ◌∷◌, ◌++◌, append_assoc, map}
 use Prim.Native.Nat.{ℕ, ◌+◌, ◌*◌}
 use native.Mathlib.Omega.{arith}
@@ -28,16 +28,22 @@ points_read : (before : List Float) (cs : List Coordinate) (after : List Float) 
 unfolding points_from coordinates_floats
 points_read before [] after at e = refl
 points_read before (c ∷ cs) after at e =
-    rw (append_assoc (coordinate_floats c) (coordinates_floats cs) after, point_read before c (coordinates_floats cs ++ after) at e, ← append_assoc before (coordinate_floats c) (coordinates_floats cs ++ after))
-    (ap (λ (ps : List Point). point_of c ∷ ps) (points_read (before ++ coordinate_floats c) cs after (at + 1) (more_floats before c at e)))
+    let joined : coordinates_floats (c ∷ cs) ++ after ≡ coordinate_floats c ++ (coordinates_floats cs ++ after) = append_assoc (coordinate_floats c) (coordinates_floats cs) after in
+    let moved : before ++ (coordinates_floats (c ∷ cs) ++ after) ≡ (before ++ coordinate_floats c) ++ (coordinates_floats cs ++ after) = ap (λ (l : List Float). before ++ l) joined ∙ sym (append_assoc before (coordinate_floats c) (coordinates_floats cs ++ after)) in
+    let first : stored_point (before ++ (coordinates_floats (c ∷ cs) ++ after)) at ≡ point_of c = ap (λ (l : List Float). stored_point (before ++ l) at) joined ∙ point_read before c (coordinates_floats cs ++ after) at e in
+    let rest : points_from (before ++ (coordinates_floats (c ∷ cs) ++ after)) (at + 1) (length cs) ≡ map point_of cs = ap (λ (l : List Float). points_from l (at + 1) (length cs)) moved ∙ points_read (before ++ coordinate_floats c) cs after (at + 1) (more_floats before c at e) in
+    ap (λ (q : Point). q ∷ points_from (before ++ (coordinates_floats (c ∷ cs) ++ after)) (at + 1) (length cs)) first ∙ ap (λ (ps : List Point). point_of c ∷ ps) rest
 
 runs_read : (before : List Float) (rs : List (Run Coordinate)) (after : List Float) (at : ℕ) → length before ≡ floats_per_coordinate * at → runs_from (before ++ (floats_of rs ++ after)) at (table_of rs) ≡ map_runs point_of rs
 unfolding runs_from floats_of table_of run_numbers map_runs
 runs_read before [] after at e = refl
 runs_read before (run kind cs ∷ rs) after at e =
     let more : length (before ++ coordinates_floats cs) ≡ floats_per_coordinate * (at + length cs) = simp length-append (omega (arith, length_coordinates_floats cs)) in
-    rw (append_assoc (coordinates_floats cs) (floats_of rs) after, points_read before cs (floats_of rs ++ after) at e, ← append_assoc before (coordinates_floats cs) (floats_of rs ++ after))
-    (ap (λ (l : List (Run Point)). run kind (map point_of cs) ∷ l) (runs_read (before ++ coordinates_floats cs) rs after (at + length cs) more))
+    let joined : floats_of (run kind cs ∷ rs) ++ after ≡ coordinates_floats cs ++ (floats_of rs ++ after) = append_assoc (coordinates_floats cs) (floats_of rs) after in
+    let moved : before ++ (floats_of (run kind cs ∷ rs) ++ after) ≡ (before ++ coordinates_floats cs) ++ (floats_of rs ++ after) = ap (λ (l : List Float). before ++ l) joined ∙ sym (append_assoc before (coordinates_floats cs) (floats_of rs ++ after)) in
+    let first : points_from (before ++ (floats_of (run kind cs ∷ rs) ++ after)) at (length cs) ≡ map point_of cs = ap (λ (l : List Float). points_from (before ++ l) at (length cs)) joined ∙ points_read before cs (floats_of rs ++ after) at e in
+    let rest : runs_from (before ++ (floats_of (run kind cs ∷ rs) ++ after)) (at + length cs) (table_of rs) ≡ map_runs point_of rs = ap (λ (l : List Float). runs_from l (at + length cs) (table_of rs)) moved ∙ runs_read (before ++ coordinates_floats cs) rs after (at + length cs) more in
+    ap (λ (ps : List Point). run kind ps ∷ runs_from (before ++ (floats_of (run kind cs ∷ rs) ++ after)) (at + length cs) (table_of rs)) first ∙ ap (λ (l : List (Run Point)). run kind (map point_of cs) ∷ l) rest
 
 -- the runs that were written, whatever floats follow theirs
 pub stored_written : (rs : List (Run Coordinate)) (after : List Float) → stored_runs (table_of rs) (floats_of rs ++ after) ≡ map_runs point_of rs

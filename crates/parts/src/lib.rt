@@ -1,4 +1,6 @@
 // What a workspace holds: runs, by kind and count, and their points.
+#![tactic(auto)]
+
 ghost use Rattle.std.specs.Prelude.{◌≡◌, ◌+◌, ◌*◌, ◌≤◌, ◌<◌, length};
 ghost use Rattle.workspace.specs.Workspace.{floats_per_coordinate};
 ghost use Rattle.parts.specs.Stored.{stored_point, run_count, kind_at, count_at};

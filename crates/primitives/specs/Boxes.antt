@@ -37,11 +37,11 @@ union_of b other = add_point (add_point b (least_corner other)) (greatest_corner
 
 -- the least gap on one axis: max(lo - other hi, other lo - hi, 0)
 unfoldable pub least_gap : Float → Float → Float → Float → Float
-least_gap lo hi otherLo otherHi = maximum_of (maximum_of (sub binary64 lo otherHi) (sub binary64 otherLo hi)) positive_zero
+least_gap lo hi other_lo other_hi = maximum_of (maximum_of (sub binary64 lo other_hi) (sub binary64 other_lo hi)) positive_zero
 
 -- the greatest gap on one axis: max(|hi - other lo|, |other hi - lo|)
 unfoldable pub greatest_gap : Float → Float → Float → Float → Float
-greatest_gap lo hi otherLo otherHi = maximum_of (absolute_of (sub binary64 hi otherLo)) (absolute_of (sub binary64 otherHi lo))
+greatest_gap lo hi other_lo other_hi = maximum_of (absolute_of (sub binary64 hi other_lo)) (absolute_of (sub binary64 other_hi lo))
 
 -- the square
 abbrev pub squared : Float → Float

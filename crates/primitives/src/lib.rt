@@ -1,11 +1,13 @@
 // Points, witnesses and boxes, by value.
+#![tactic(auto)]
+
 ghost use Rattle.std.specs.Prelude.{◌≡◌};
 ghost use Rattle.primitives.specs.Vectors.{difference_of, dot_of, cross_of, interpolated_of, norm_of, squared_distance};
 ghost use Rattle.primitives.specs.Witnesses.{between_of, smaller_of, flipped_of};
 ghost use Rattle.primitives.specs.Boxes.{box_of_point, add_point, least_corner, greatest_corner, union_of, squared, least_gap, greatest_gap, least_squared_gap, greatest_squared_gap};
 
 // A point, or a vector.
-#[derive(Drop)]
+#[derive(Clone, Copy)]
 pub struct Point {
     pub x: f64,
     pub y: f64,
@@ -66,7 +68,7 @@ pub fn dist_sq(a: Point, b: Point) -> f64
 }
 
 // A distance with its two points.
-#[derive(Drop)]
+#[derive(Clone, Copy)]
 pub struct Witness {
     pub d: f64,
     pub ax: f64,
@@ -137,7 +139,7 @@ fn greatest_gap(lo: f64, hi: f64, other_lo: f64, other_hi: f64) -> f64
 }
 
 // A box: least and greatest per axis.
-#[derive(Drop)]
+#[derive(Clone, Copy)]
 pub struct Aabb {
     pub lo_x: f64,
     pub lo_y: f64,

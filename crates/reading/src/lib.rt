@@ -1,5 +1,7 @@
 // Both blobs of an operation read into lent memory, in the order of the refusals: a tolerance below 0 first, then a
 // rule number that is none, then the operands' refusals, then an output that is too short.
+#![tactic(auto)]
+
 ghost use Rattle.std.specs.Prelude.{◌≡◌, not, ◌||◌, eqb};
 ghost use Rattle.outcomes.specs.Lent.{lent, left};
 ghost use Rattle.reading.specs.Inner.{below_zero, too_short, first_asked, first_by_rule, ReadBoth};
@@ -10,7 +12,7 @@ use workspace::NUMBERS_PER_RUN;
 
 // What an operation asks for, and so what it refuses besides the operands: a tolerance below 0, or an output that is
 // too short.
-#[derive(Drop)]
+#[derive(Clone, Copy)]
 pub enum Asked {
     Distance,
     Within(f64),
@@ -18,14 +20,14 @@ pub enum Asked {
 }
 
 // The same by a rule, of an operation that has one: a number other than 1 or 2 is refused too.
-#[derive(Drop)]
+#[derive(Clone, Copy)]
 pub struct Question {
     pub asked: Asked,
     pub rule: u32,
 }
 
 // Both blobs in lent memory: how many numbers of each table were written, and the SRID of side 1. Or a refusal.
-#[derive(Drop)]
+#[derive(Clone, Copy)]
 pub enum BothRead {
     Stored {
         numbers1: usize,

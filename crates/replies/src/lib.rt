@@ -1,5 +1,7 @@
 // What C reads of an answer: a case, the number and side of a refusal, and a number or two; a root and its digits.
 // Undecided in its contracts is only the payload, sign included, of a NaN in an answered number.
+#![tactic(auto)]
+
 ghost use Rattle.std.specs.Prelude.{◌≡◌};
 ghost use Rattle.interpolation.specs.Operation.{interpolated_report};
 ghost use Rattle.outcomes.specs.Answers.{answer_report, decision_report, written_report};
@@ -17,7 +19,7 @@ use surface::PatchRange;
 
 // What an operation returns: a case, the number and side of a refusal, a number.
 #[repr(C)]
-#[derive(Drop)]
+#[derive(Clone, Copy)]
 pub struct Reply {
     pub case: u32,
     pub number: u32,
@@ -27,7 +29,7 @@ pub struct Reply {
 
 // What is returned where two numbers answer.
 #[repr(C)]
-#[derive(Drop)]
+#[derive(Clone, Copy)]
 pub struct PairReply {
     pub case: u32,
     pub number: u32,
@@ -38,7 +40,7 @@ pub struct PairReply {
 
 // What is returned of a root: itself, and the digits needed.
 #[repr(C)]
-#[derive(Drop)]
+#[derive(Clone, Copy)]
 pub struct RootReply {
     pub root: f64,
     pub digits: u32,

@@ -6,5 +6,4 @@ pub mod Refusing
 pub mod Listing
 pub mod Answers
 pub mod Examples
-pub mod Walks
 pub mod WholeWalk

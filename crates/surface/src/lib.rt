@@ -1,4 +1,6 @@
 // The patches of a surface: where each stands in its blob, and its bytes as a part of the blob.
+#![tactic(auto)]
+
 ghost use Rattle.std.specs.Prelude.{◌≡◌, [], ◌∷◌, ℕ, ◌+◌, ◌-◌, length};
 ghost use Rattle.coords.specs.Walk.{header_at, times};
 ghost use Rattle.surface.specs.Patches.{patch_at, patches_from, surface_kind, patch_value, refusing, part};
@@ -13,7 +15,7 @@ use gpb::Header;
 use refusals::Refusal;
 
 // The part of the blob from a start up to an end; none; no surface; or the refusal.
-#[derive(Drop)]
+#[derive(Clone, Copy)]
 pub enum PatchRange {
     Part { start: usize, end: usize },
     Nothing,
@@ -22,7 +24,7 @@ pub enum PatchRange {
 }
 
 // Where the first patch starts and how many there are; no surface; or the refusal.
-#[derive(Drop)]
+#[derive(Clone, Copy)]
 pub enum PatchList {
     Listed { first: usize, count: u64 },
     NoSurface,
@@ -30,7 +32,7 @@ pub enum PatchList {
 }
 
 // A surface by the kind of its geometry, and where the geometry starts.
-#[derive(Drop)]
+#[derive(Clone, Copy)]
 enum SurfaceKind {
     Collection(usize),
     Triangle(usize),
@@ -38,14 +40,14 @@ enum SurfaceKind {
 }
 
 // Where scanning ended, or the number of the refusal.
-#[derive(Drop)]
+#[derive(Clone, Copy)]
 enum Scanned {
     Ends(usize),
     Refused(u8),
 }
 
 // Where the first patch of a collection starts and how many there are, or the number of the refusal.
-#[derive(Drop)]
+#[derive(Clone, Copy)]
 enum PatchCount {
     Counted { first: usize, count: u64 },
     Refused(u8),
@@ -254,7 +256,7 @@ fn one_less(count: u64) -> u64
 }
 
 // A surface's blob, where its next patch starts, and how many are left from there on.
-#[derive(Drop)]
+#[derive(Clone, Copy)]
 pub struct Cursor<'a> {
     pub blob: &'a [u8],
     pub at: usize,

@@ -17,7 +17,7 @@ use Rattle.coords.specs.Walk.{Coordinate, ok, refused, cons_parsed, and_then, ti
 use Rattle.coords.specs.Parts.{Run, coordinate_count}
 use Rattle.coords.specs.Inner.{ParsedRuns, line_runs, rings_at_runs, members_at_runs, walk_runs}
 use Rattle.coords.specs.declared.WkbHeader.{WkbHeader}
-use Rattle.coords.proofs.Runs.{rings_runs_lem, members_runs}
+use Rattle.coords.proofs.Runs.{rings_runs_lem, members_runs_lem}
 use Rattle.coords.proofs.Loops.{coords_append}
 use Rattle.workspace.specs.declared.Progress.{Progress}
 use Rattle.workspace.specs.Workspace.{floats_per_coordinate, numbers_per_run, floats_of, table_of}
@@ -108,7 +108,7 @@ pub rings_are : (h : WkbHeader) (s : List ℕ) (at : ℕ) (p : Progress) (lf lt 
 rings_are h s at p lf lt r = rings_runs_lem h s at ∙ list_is (line_runs h s) h.little s at p lf lt (rw (rings_runs_lem h s at) at r)
 
 pub members_inside : (levels : ℕ) (little : Bool) (s : List ℕ) (at : ℕ) (p : Progress) (lf lt : ℕ) → ReadyToFill (members_at_runs levels little s at) p lf lt → at + 4 ≤ length s
-members_inside levels little s at p lf lt r = list_inside (walk_runs levels s) little s at p lf lt (rw (members_runs levels little s at) at r)
+members_inside levels little s at p lf lt r = list_inside (walk_runs levels s) little s at p lf lt (rw (members_runs_lem levels little s at) at r)
 
 pub members_are : (levels : ℕ) (little : Bool) (s : List ℕ) (at : ℕ) (p : Progress) (lf lt : ℕ) → ReadyToFill (members_at_runs levels little s at) p lf lt → members_at_runs levels little s at ≡ times ◌++◌ [] (walk_runs levels s) (u32_at little s at) (at + 4)
-members_are levels little s at p lf lt r = members_runs levels little s at ∙ list_is (walk_runs levels s) little s at p lf lt (rw (members_runs levels little s at) at r)
+members_are levels little s at p lf lt r = members_runs_lem levels little s at ∙ list_is (walk_runs levels s) little s at p lf lt (rw (members_runs_lem levels little s at) at r)

@@ -1,5 +1,7 @@
 // The filling pass of the walk: ordinates and runs into lent memory, once the checking pass has refused nothing.
 // Undecided in its contracts is only the payload, sign included, of a NaN in the floats.
+#![tactic(auto)]
+
 ghost use Rattle.std.specs.Prelude.{◌≡◌, ◌+◌, ◌*◌, ◌≤◌, length};
 ghost use Rattle.std.proofs.lemmas.List.Edits.{sets};
 ghost use Rattle.std.specs.Float.{binary64};
@@ -20,7 +22,7 @@ pub const FLOATS_PER_COORDINATE: usize = 4;
 pub const NUMBERS_PER_RUN: usize = 2;
 
 // Coordinates and runs that are written, and the next position of the walk.
-#[derive(Drop)]
+#[derive(Clone, Copy)]
 struct Progress {
     pub coords: usize,
     pub runs: usize,

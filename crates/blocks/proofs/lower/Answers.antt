@@ -1,0 +1,13 @@
+-- `blocks::lower` meets its contract. Assumes nothing.
+use lib.Ieee.{neg, div, of_bits}
+use Rattle.blocks.proofs.lower.Goals as goal
+
+pub returns-then-k-m : goal.returns-then-k-m
+returns-then-k-m c = rw c.if-k-m.true
+
+pub returns-then-m-k : goal.returns-then-m-k
+returns-then-m-k c = rw (c.if-k-m.false, c.if-m-k.true)
+
+pub returns : goal.returns
+unfolding neg div of_bits
+returns c = rw (c.if-k-m.false, c.if-m-k.false)

@@ -1,0 +1,20 @@
+-- `crossings::inner_side` meets its contract. Assumes nothing.
+use lib.Ieee.{of_bits}
+use Rattle.measures.specs.Measures.{inner_side}
+use Rattle.crossings.proofs.inner_side.Goals as goal
+
+pub difference-edge-requires : goal.difference-edge-requires
+difference-edge-requires c = tt
+
+pub difference-to_x-requires : goal.difference-to_x-requires
+difference-to_x-requires c = tt
+
+pub cross-requires : goal.cross-requires
+cross-requires c = tt
+
+pub dot-requires : goal.dot-requires
+dot-requires c = tt
+
+pub returns : goal.returns
+unfolding inner_side of_bits
+returns c = rw (c.dot.ensures, c.cross.ensures, c.difference-to_x.ensures, c.difference-edge.ensures)

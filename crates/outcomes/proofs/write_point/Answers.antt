@@ -1,0 +1,21 @@
+-- `outcomes::write_point` meets its contract. Assumes nothing.
+use Rattle.outcomes.specs.Answers.{written_report}
+use Rattle.outcomes.specs.Operations.{blob_value, point_after}
+use Rattle.outcomes.specs.Inner.{swept_report, swept_output, HasRoom}
+use Rattle.outcomes.proofs.write_point.Goals as goal
+
+pub write_point-requires : goal.write_point-requires
+unfolding HasRoom
+write_point-requires c = rw c.in-Found.is at c.requires
+
+pub returns-in-Refused : goal.returns-in-Refused
+unfolding written_report blob_value point_after swept_report swept_output
+returns-in-Refused c = let e = c.in-Refused.is in record { told = rw e; left = rw e }
+
+pub returns-in-Nothing : goal.returns-in-Nothing
+unfolding written_report blob_value point_after swept_report swept_output
+returns-in-Nothing c = let e = c.in-Nothing.is in record { told = rw e; left = rw e }
+
+pub returns-in-Found : goal.returns-in-Found
+unfolding written_report blob_value point_after swept_report swept_output
+returns-in-Found c = let e = c.in-Found.is in record { told = rw e; left = rw e c.write_point.ensures }

@@ -1,0 +1,14 @@
+-- `threed_closest::st_3d_closest_point` meets its contract. Assumes nothing.
+use mathlib.Core.Path.{refl}
+use Rattle.outcomes.specs.Operations.{rule_checks, output_checks, point_after, closest_point}
+use Rattle.reading.specs.Inner.{asked_checks}
+use Rattle.outcomes.proofs.Answered.{written}
+use Rattle.reading.proofs.Steps.{room}
+use Rattle.threed_closest.proofs.st_3d_closest_point.Goals as goal
+
+pub write_point-requires : goal.write_point-requires
+write_point-requires c = room _ _ _ _ _ _ c.closest_pair-pair.ensures.answer
+
+pub returns : goal.returns
+unfolding closest_point rule_checks output_checks asked_checks point_after
+returns c = record { whole_outcome = written c.closest_pair-pair.ensures point_after (λ srid l. refl) c.write_point.ensures }
