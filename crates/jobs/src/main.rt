@@ -1,10 +1,14 @@
 // Runs the job of each record of data/calls (document 02, 5/13), and prints how many records there are and how many
 // differ, after a line for each that does. tools/jobs/README.md gives a record's layout. The order of the hits is open,
 // so each is counted.
-ghost use Rattle.std.specs.Prelude.{◌≤◌, ◌<◌};
+#![tactic(auto)]
+
+ghost use Rattle.std.specs.Prelude.{◌≤◌, ◌<◌, IfOk, length as list_length};
 
 use dig_matcher::{JobAnswer, job};
 use ieee754::to_pattern;
+use std::fs;
+use std::io::{self, Read};
 
 // What lists hold before a call.
 const NUMBER_MARK: u16 = 42405;
@@ -58,7 +62,7 @@ struct Reply {
 }
 
 // Two numbers, and the pattern of the distance.
-#[derive(Drop)]
+#[derive(Clone, Copy)]
 struct Hit {
     first: u32,
     second: u32,
@@ -292,10 +296,8 @@ fn times_expected(r: &[u8], start: usize, n: usize, hit: Hit) -> usize
     requires n_bound { n < 4294967296 }
 {
     let mut times: usize = 0;
-    let mut i: usize = 0;
-    while i < n {
+    for i in 0..n {
         times += same_hit(hit_at(r, start + HIT * i), hit);
-        i += 1;
     }
     times
 }
@@ -303,10 +305,8 @@ fn times_expected(r: &[u8], start: usize, n: usize, hit: Hit) -> usize
 // How often it is among the first n of the lists.
 fn times_listed(first: &[u16], second: &[u16], distances: &[f64], n: usize, hit: Hit) -> usize {
     let mut times: usize = 0;
-    let mut i: usize = 0;
-    while i < n {
+    for i in 0..n {
         times += same_hit(listed_hit(first, second, distances, i), hit);
-        i += 1;
     }
     times
 }
@@ -315,39 +315,23 @@ fn times_listed(first: &[u16], second: &[u16], distances: &[f64], n: usize, hit:
 fn hits_right(r: &[u8], first: &[u16], second: &[u16], distances: &[f64]) -> bool {
     let start = layout_of(r).hits;
     let n = length(r, HITS);
-    let mut i: usize = 0;
-    while i < n {
+    for i in 0..n {
         let hit = hit_at(r, start + HIT * i);
         if times_expected(r, start, n, hit) != times_listed(first, second, distances, n, hit) {
             return false;
         }
-        i += 1;
     }
     true
 }
 
 // Do numbers keep their mark from a place on?
 fn numbers_kept(list: &[u16], from: usize) -> bool {
-    let mut i = from;
-    while i < list.len() {
-        if list[i] != NUMBER_MARK {
-            return false;
-        }
-        i += 1;
-    }
-    true
+    list.iter().skip(from).all(|x| *x == NUMBER_MARK)
 }
 
 // The same of distances.
 fn distances_kept(list: &[f64], from: usize) -> bool {
-    let mut i = from;
-    while i < list.len() {
-        if list[i] != DISTANCE_MARK {
-            return false;
-        }
-        i += 1;
-    }
-    true
+    list.iter().skip(from).all(|x| *x == DISTANCE_MARK)
 }
 
 // Does the record's job answer, and leave the lists, as it expects?
@@ -395,23 +379,18 @@ fn run_first(s: &[u8]) -> Ran {
 }
 
 // A line for a record that differs, and 1 for it.
-fn report(record: u64, same: bool) -> u64
-    ensures { result ≤ 1 }
+fn report(rt: &impl Print, record: u64, same: bool) -> io::Result<u64>
+    ensures { IfOk result (λ n. n ≤ 1) }
 {
     if same {
-        return 0;
+        return Ok(0);
     }
-    io::write_all(1, b"record ");
-    io::print_decimal(1, record);
-    io::write_all(1, b" differs\n");
-    1
+    println!(rt; "record {record} differs")?;
+    Ok(1)
 }
 
-fn summary(records: u64, differing: u64) {
-    io::print_decimal(1, records);
-    io::write_all(1, b" records, ");
-    io::print_decimal(1, differing);
-    io::write_all(1, b" differing\n");
+fn summary(rt: &impl Print, records: u64, differing: u64) -> io::Result<()> {
+    println!(rt; "{records} records, {differing} differing")
 }
 
 // A position further on, no farther than the end.
@@ -427,17 +406,17 @@ fn next(s: &[u8], at: usize, by: usize) -> usize {
 }
 
 // Runs the job of every record of a file.
-fn run(s: &[u8]) {
+fn run(rt: &impl Print, s: &[u8]) -> io::Result<()> {
     let mut at: usize = 0;
     let mut records: u64 = 0;
     let mut differing: u64 = 0;
     while records < 1000000 && at < s.len() {
         let x = run_first(part(s, at, s.len()));
-        differing += report(records, x.same);
+        differing += report(rt, records, x.same)?;
         at = next(s, at, x.next);
         records += 1;
     }
-    summary(records, differing);
+    summary(rt, records, differing)
 }
 
 // Room for a whole file. A function of its own, so that no proof looks into an array of this length.
@@ -445,15 +424,27 @@ fn room() -> [u8; 1048576] {
     [0u8; 1048576]
 }
 
-fn main() {
-    let path = b"calls";
-    let fd = os::open_read(path);
-    if fd < 0 {
-        os::fail(path);
-        return;
+// Reads until the room is full or the file ends, and returns how many bytes it read.
+fn read_full(file: &mut impl Read, buf: &mut [u8]) -> io::Result<usize>
+    ensures { IfOk result (λ n. n ≤ list_length buf.new) }
+{
+    let mut done = 0;
+    while done < buf.len() {
+        let n = file.read(&mut buf[done..])?;
+        if n == 0 {
+            break;
+        }
+        done += n;
     }
+    Ok(done)
+}
+
+fn main(rt: HostRuntime) -> io::Result<()> {
+    let mut file = match fs::open(&rt, "calls") {
+        Ok(file) => file,
+        Err(error) => return eprintln!(&rt; "calls: {error}"),
+    };
     let mut data = room();
-    let k = io::read_full(fd, &mut data);
-    libc::close(fd);
-    run(&data[..k]);
+    let k = read_full(&mut file, &mut data)?;
+    run(&rt, &data[..k])
 }

@@ -1,9 +1,13 @@
 // Joins the two blobs of each record of data/calls (document 02, 4/13), and prints how many records there are and how
 // many differ, after a line for each that does. tools/joins/README.md gives a record's layout.
-ghost use Rattle.std.specs.Prelude.{◌≤◌, ◌<◌};
+#![tactic(auto)]
+
+ghost use Rattle.std.specs.Prelude.{◌≤◌, ◌<◌, IfOk, length as list_length};
 
 use blob::WrittenSize;
 use joining::join;
+use std::fs;
+use std::io::{self, Read};
 
 // What the output holds before a call.
 const MARK: u8 = 165;
@@ -157,12 +161,10 @@ fn output_right(output: &[u8], written: &[u8]) -> bool {
     if output.len() < written.len() {
         return false;
     }
-    let mut i: usize = 0;
-    while i < output.len() {
-        if !byte_right(output[i], written, i) {
+    for (i, x) in output.iter().enumerate() {
+        if !byte_right(*x, written, i) {
             return false;
         }
-        i += 1;
     }
     true
 }
@@ -194,23 +196,18 @@ fn join_first(s: &[u8]) -> Joined {
 }
 
 // A line for a record that differs, and 1 for it.
-fn report(record: u64, same: bool) -> u64
-    ensures { result ≤ 1 }
+fn report(rt: &impl Print, record: u64, same: bool) -> io::Result<u64>
+    ensures { IfOk result (λ n. n ≤ 1) }
 {
     if same {
-        return 0;
+        return Ok(0);
     }
-    io::write_all(1, b"record ");
-    io::print_decimal(1, record);
-    io::write_all(1, b" differs\n");
-    1
+    println!(rt; "record {record} differs")?;
+    Ok(1)
 }
 
-fn summary(records: u64, differing: u64) {
-    io::print_decimal(1, records);
-    io::write_all(1, b" records, ");
-    io::print_decimal(1, differing);
-    io::write_all(1, b" differing\n");
+fn summary(rt: &impl Print, records: u64, differing: u64) -> io::Result<()> {
+    println!(rt; "{records} records, {differing} differing")
 }
 
 // A position further on, no farther than the end.
@@ -226,17 +223,17 @@ fn next(s: &[u8], at: usize, by: usize) -> usize {
 }
 
 // Joins every record of a file.
-fn run(s: &[u8]) {
+fn run(rt: &impl Print, s: &[u8]) -> io::Result<()> {
     let mut at: usize = 0;
     let mut records: u64 = 0;
     let mut differing: u64 = 0;
     while records < 1000000 && at < s.len() {
         let x = join_first(part(s, at, s.len()));
-        differing += report(records, x.same);
+        differing += report(rt, records, x.same)?;
         at = next(s, at, x.next);
         records += 1;
     }
-    summary(records, differing);
+    summary(rt, records, differing)
 }
 
 // Room for a whole file. A function of its own, so that no proof looks into an array of this length.
@@ -244,15 +241,27 @@ fn room() -> [u8; 1048576] {
     [0u8; 1048576]
 }
 
-fn main() {
-    let path = b"calls";
-    let fd = os::open_read(path);
-    if fd < 0 {
-        os::fail(path);
-        return;
+// Reads until the room is full or the file ends, and returns how many bytes it read.
+fn read_full(file: &mut impl Read, buf: &mut [u8]) -> io::Result<usize>
+    ensures { IfOk result (λ n. n ≤ list_length buf.new) }
+{
+    let mut done = 0;
+    while done < buf.len() {
+        let n = file.read(&mut buf[done..])?;
+        if n == 0 {
+            break;
+        }
+        done += n;
     }
+    Ok(done)
+}
+
+fn main(rt: HostRuntime) -> io::Result<()> {
+    let mut file = match fs::open(&rt, "calls") {
+        Ok(file) => file,
+        Err(error) => return eprintln!(&rt; "calls: {error}"),
+    };
     let mut data = room();
-    let k = io::read_full(fd, &mut data);
-    libc::close(fd);
-    run(&data[..k]);
+    let k = read_full(&mut file, &mut data)?;
+    run(&rt, &data[..k])
 }

@@ -1,9 +1,11 @@
 // Replays the records of data/, calls with the answers that are expected of them, and prints for each file how many
 // records it has and how many of them differ, after a line for each that does; then how many patches the cursor lists
 // of the surfaces in it, and how many of these differ from the patches by number. data/README.md gives a record's layout.
+#![tactic(auto)]
+
 mod patches;
 
-ghost use Rattle.std.specs.Prelude.{◌≤◌, ◌<◌};
+ghost use Rattle.std.specs.Prelude.{◌≤◌, ◌<◌, IfOk, length as list_length};
 
 use blob::{Sizes, blob_sizes};
 use ieee754::{from_pattern, to_pattern};
@@ -11,6 +13,9 @@ use interpolation::{Interpolated, st_3d_line_interpolate_point};
 use outcomes::{Answer, Decision, Written};
 use patches::{Listing, list, reply_by_cursor};
 use refusals::Refusal;
+use std::fs;
+use std::io::{self, Read};
+use std::rt::Files;
 use surface::{PatchRange, patch_range};
 use threed_closest::{
     st_3d_closest_point, st_3d_distance, st_3d_dwithin, st_3d_intersects, st_3d_shortest_line,
@@ -361,12 +366,10 @@ fn floats_right(floats: &[f64], held: &[u8]) -> bool {
     if floats.len() < held.len() / 8 {
         return false;
     }
-    let mut i: usize = 0;
-    while i < floats.len() {
-        if !float_right(floats[i], held, i) {
+    for (i, x) in floats.iter().enumerate() {
+        if !float_right(*x, held, i) {
             return false;
         }
-        i += 1;
     }
     true
 }
@@ -383,12 +386,10 @@ fn table_right(table: &[u32], held: &[u8]) -> bool {
     if table.len() < held.len() / 4 {
         return false;
     }
-    let mut i: usize = 0;
-    while i < table.len() {
-        if !number_right(table[i], held, i) {
+    for (i, x) in table.iter().enumerate() {
+        if !number_right(*x, held, i) {
             return false;
         }
-        i += 1;
     }
     true
 }
@@ -405,12 +406,10 @@ fn output_right(output: &[u8], written: &[u8]) -> bool {
     if output.len() < written.len() {
         return false;
     }
-    let mut i: usize = 0;
-    while i < output.len() {
-        if !byte_right(output[i], written, i) {
+    for (i, x) in output.iter().enumerate() {
+        if !byte_right(*x, written, i) {
             return false;
         }
-        i += 1;
     }
     true
 }
@@ -549,34 +548,32 @@ fn replay_first(s: &[u8]) -> Replayed
 }
 
 // A line for a record that differs, and 1 for it.
-fn report(name: &[u8], record: u64, same: bool) -> u64
-    ensures { result ≤ 1 }
+fn report(rt: &impl Print, name: &str, record: u64, same: bool) -> io::Result<u64>
+    ensures { IfOk result (λ n. n ≤ 1) }
 {
     if same {
-        return 0;
+        return Ok(0);
     }
-    io::write_all(1, name);
-    io::write_all(1, b": record ");
-    io::print_decimal(1, record);
-    io::write_all(1, b" differs\n");
-    1
+    println!(rt; "{name}: record {record} differs")?;
+    Ok(1)
 }
 
-fn summary(name: &[u8], records: u64, differing: u64, listing: Listing) {
-    io::write_all(1, name);
-    io::write_all(1, b": ");
-    io::print_decimal(1, records);
-    io::write_all(1, b" records, ");
-    io::print_decimal(1, differing);
-    io::write_all(1, b" differing; ");
-    io::print_decimal(1, listing.patches);
-    io::write_all(1, b" patches by the cursor, ");
-    io::print_decimal(1, listing.differing);
-    io::write_all(1, b" differing\n");
+fn summary(
+    rt: &impl Print,
+    name: &str,
+    records: u64,
+    differing: u64,
+    listing: Listing,
+) -> io::Result<()> {
+    print!(rt; "{name}: {records} records, {differing} differing; ")?;
+    println!(rt;
+        "{} patches by the cursor, {} differing",
+        listing.patches, listing.differing
+    )
 }
 
 // Replays every record of a file.
-fn run(name: &[u8], s: &[u8]) {
+fn run(rt: &impl Print, name: &str, s: &[u8]) -> io::Result<()> {
     let mut at: usize = 0;
     let mut records: u64 = 0;
     let mut differing: u64 = 0;
@@ -584,7 +581,7 @@ fn run(name: &[u8], s: &[u8]) {
     let mut patches_differing: u64 = 0;
     while records < 1000000 && at < s.len() {
         let x = replay_first(part(s, at, s.len()));
-        differing += report(name, records, x.same);
+        differing += report(rt, name, records, x.same)?;
         patches += x.listing.patches;
         patches_differing += x.listing.differing;
         at = next(s, at, x.next);
@@ -594,7 +591,7 @@ fn run(name: &[u8], s: &[u8]) {
         patches,
         differing: patches_differing,
     };
-    summary(name, records, differing, listing);
+    summary(rt, name, records, differing, listing)
 }
 
 // A position further on, no farther than the end.
@@ -614,30 +611,43 @@ fn room() -> [u8; 262144] {
     [0u8; 262144]
 }
 
-fn replay_file(name: &[u8]) {
-    let fd = os::open_read(name);
-    if fd < 0 {
-        os::fail(name);
-        return;
+// Reads until the room is full or the file ends, and returns how many bytes it read.
+fn read_full(file: &mut impl Read, buf: &mut [u8]) -> io::Result<usize>
+    ensures { IfOk result (λ n. n ≤ list_length buf.new) }
+{
+    let mut done = 0;
+    while done < buf.len() {
+        let n = file.read(&mut buf[done..])?;
+        if n == 0 {
+            break;
+        }
+        done += n;
     }
-    let mut data = room();
-    let k = io::read_full(fd, &mut data);
-    libc::close(fd);
-    run(name, &data[..k]);
+    Ok(done)
 }
 
-fn main() {
-    replay_file(b"distance");
-    replay_file(b"max_distance");
-    replay_file(b"dwithin");
-    replay_file(b"dfully_within");
-    replay_file(b"intersects");
-    replay_file(b"closest_point");
-    replay_file(b"shortest_line");
-    replay_file(b"longest_line");
-    replay_file(b"line_interpolate_point");
-    replay_file(b"patch");
-    replay_file(b"sizes");
-    replay_file(b"fixtures");
-    replay_file(b"rules");
+fn replay_file(rt: &(impl Files + Print + Eprint), name: &str) -> io::Result<()> {
+    let mut file = match fs::open(rt, name) {
+        Ok(file) => file,
+        Err(error) => return eprintln!(rt; "{name}: {error}"),
+    };
+    let mut data = room();
+    let k = read_full(&mut file, &mut data)?;
+    run(rt, name, &data[..k])
+}
+
+fn main(rt: HostRuntime) -> io::Result<()> {
+    replay_file(&rt, "distance")?;
+    replay_file(&rt, "max_distance")?;
+    replay_file(&rt, "dwithin")?;
+    replay_file(&rt, "dfully_within")?;
+    replay_file(&rt, "intersects")?;
+    replay_file(&rt, "closest_point")?;
+    replay_file(&rt, "shortest_line")?;
+    replay_file(&rt, "longest_line")?;
+    replay_file(&rt, "line_interpolate_point")?;
+    replay_file(&rt, "patch")?;
+    replay_file(&rt, "sizes")?;
+    replay_file(&rt, "fixtures")?;
+    replay_file(&rt, "rules")
 }

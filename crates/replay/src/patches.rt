@@ -37,22 +37,12 @@ fn patch_by_number(s: &[u8], n: u64) -> &[u8] {
         PatchRange::Part { start, end } => part(s, start, end),
         PatchRange::Nothing => &s[..0],
         PatchRange::NoSurface => &s[..0],
-        PatchRange::Refused(r) => &s[..0],
+        PatchRange::Refused(_) => &s[..0],
     }
 }
 
 fn same_bytes(a: &[u8], b: &[u8]) -> bool {
-    if a.len() != b.len() {
-        return false;
-    }
-    let mut i: usize = 0;
-    while i < a.len() {
-        if a[i] != b[i] {
-            return false;
-        }
-        i += 1;
-    }
-    true
+    a == b
 }
 
 // 1 where patch n, before which this place is, or the one after it is not the same by the cursor and by number.
@@ -87,15 +77,13 @@ fn list_from(s: &[u8], first: usize, count: u64) -> Listing
         };
     }
     let mut at = first;
-    let mut n: u64 = 0;
     let mut differing: u64 = 0;
-    while n < count {
+    for n in 0..count {
         differing += differs(s, n, at, count - n);
         at = end_here(s, at, count - n);
-        n += 1;
     }
     Listing {
-        patches: n,
+        patches: count,
         differing,
     }
 }
@@ -110,7 +98,7 @@ pub fn list(s: &[u8]) -> Listing
             patches: 0,
             differing: 0,
         },
-        PatchList::Refused(r) => Listing {
+        PatchList::Refused(_) => Listing {
             patches: 0,
             differing: 0,
         },
@@ -123,10 +111,8 @@ fn nth(s: &[u8], n: u64, first: usize, count: u64) -> Reply {
         return plain(NOTHING);
     }
     let mut at = first;
-    let mut k: u64 = 0;
-    while k < n {
+    for k in 0..n {
         at = end_here(s, at, count - k);
-        k += 1;
     }
     answered(at as u64, end_here(s, at, count - n) as u64)
 }
