@@ -2,6 +2,8 @@
 // intersects, closest point and shortest line, for every input, by pair rule 1 or 2 (document 02, 3/13).
 // Undecided in its contracts is only the payload, sign included, of a NaN in a workspace or in an answered number;
 // output bytes are wholly decided.
+#![tactic(auto)]
+
 ghost use Rattle.std.specs.Prelude.{◌≡◌, []};
 ghost use Rattle.parts.specs.Stored.{stored_runs, Laid};
 ghost use Rattle.extremes.specs.Found.{answer_of};

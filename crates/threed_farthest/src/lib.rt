@@ -2,6 +2,8 @@
 // line, for every input.
 // Undecided in its contracts is only the payload, sign included, of a NaN in a workspace or in an answered number;
 // output bytes are wholly decided.
+#![tactic(auto)]
+
 ghost use Rattle.std.specs.Prelude.{◌≡◌, []};
 ghost use Rattle.outcomes.specs.Lent.{lent, left};
 ghost use Rattle.outcomes.specs.Answers.{nothing, blob, answering, answer_report, decision_report, written_report};

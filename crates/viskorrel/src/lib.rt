@@ -1,6 +1,8 @@
 // The operations for C: one function each, over lent memory. include/viskorrel.h documents them.
 // Undecided in their contracts is only the payload, sign included, of a NaN in a workspace or in an answered number;
 // output bytes are wholly decided.
+#![tactic(auto)]
+
 ghost use Rattle.std.specs.Prelude.{◌≡◌, [], ℕ, ◌+◌, ◌-◌, length};
 ghost use Rattle.refusals.specs.Checks.{first_of};
 ghost use Rattle.blob.specs.Blob.{sizes_of};
