@@ -21,9 +21,13 @@ from dig.ready import ARCHIVE, INSTALLED, LISTING, ROOT, SHARED, TARGET
 from viskorrel import LibraryMissing, load
 from viskorrel._library import VARIABLE
 
+CRATE = os.path.join(ROOT, "crates", "viskorrel")
+MADE = os.path.join(CRATE, "out", "libviskorrel.a")  # where rt leaves it
 LOG = os.path.join(TARGET, "build.log")  # the prover's lines
 DEMO = "viskorrel-demo" if INSTALLED else os.path.join(TARGET, "demo")
 TICK = 20  # seconds between signs of life
+WORDS = ("lib", "--cpu", "x86-64")  # any of them: rt's own choice is x86-64-v2
+COMMAND = f"rt {' '.join(WORDS)}, in crates/viskorrel,"
 EACH = 1000  # what a crate costs beside its code, in bytes of code: the estimate of the time left
 
 
@@ -58,19 +62,23 @@ def alone():
 
 
 def crates():
-    """The crate viskorrel and all that it stands on, near or far, each with its own line of crates.txt."""
-    needs = {}
+    """The crate viskorrel and all that it stands on, near or far, each with its own line of crates.txt; in the order in which rt builds them."""
+    listed, reached = {}, {}
     with open(LISTING) as lines:
         for line in lines:
-            name, colon, words = line.partition("#")[0].partition(":")
+            name, colon, needs = line.partition("#")[0].partition(":")
             if colon:
-                needs[name.strip()] = words.split()
-    reached, left = {}, ["viskorrel"]
-    while left:
-        name = left.pop()
-        if name in needs and name not in reached:  # others are libraries of the kit
-            reached[name] = needs[name]
-            left += needs[name]
+                name, *kind = name.split()
+                listed[name] = [*kind, ":", *needs.split()]
+
+    def reach(name):
+        if name in listed and name not in reached:  # others are libraries of the kit
+            words = listed[name]
+            for need in words[words.index(":") + 1:]:
+                reach(need)
+            reached[name] = words
+
+    reach("viskorrel")
     return reached
 
 
@@ -79,29 +87,33 @@ def files(crate, rooms=("specs", "src", "proofs")):
                   for folder, _, names in os.walk(os.path.join(ROOT, "crates", crate, room)) for file in names)
 
 
-def of_sources(needs):
+def of_sources(lines):
     """One sum over the crates: their lines of crates.txt, their files."""
-    return total(*(part for crate in sorted(needs) for part in (
-        " ".join([crate, *needs[crate]]).encode(),
+    return total(*(part for crate in sorted(lines) for part in (
+        " ".join([crate, *lines[crate]]).encode(),
         *(part for path in files(crate) for part in (os.path.relpath(path, ROOT).encode(), content(path))))))
 
 
 def prove():
     """Proves and builds the archive, if it is not there or was made of something else."""
-    needs = crates()
-    made_of = of_sources(needs)
+    lines = crates()
+    made_of = of_sources(lines)
     if is_made_of(ARCHIVE, made_of):
         return
     known = "was made of other sources" if os.path.exists(ARCHIVE) else "is not there"
-    say(f"The library {known}: rt staticlib viskorrel proves and builds it (some minutes from nothing).")
+    say(f"The library {known}: {COMMAND} proves and builds it (what was proved before is not proved again; from nothing it takes long).")
     if shutil.which("rt") is None:
         raise Problems("rt is not on the path: the Rattle kit is needed to prove and build the library",
                        "a library that was built elsewhere is taken with --library PATH or VISKORREL_LIBRARY")
     forget(ARCHIVE)
+    with contextlib.suppress(FileNotFoundError):
+        os.remove(MADE)
     start = time.monotonic()
-    run(Progress({crate: EACH + sum(map(os.path.getsize, files(crate, ["src"]))) for crate in needs}))
-    if not os.path.exists(ARCHIVE):
-        raise Problems(f"rt staticlib viskorrel made no archive; its lines are in {LOG}")
+    run(Progress({crate: EACH + sum(map(os.path.getsize, files(crate, ["src"]))) for crate in lines}))
+    if not os.path.exists(MADE):
+        raise Problems(f"{COMMAND} made no archive; its lines are in {LOG}")
+    os.makedirs(os.path.dirname(ARCHIVE), exist_ok=True)
+    shutil.copyfile(MADE, ARCHIVE)
     if of_sources(crates()) != made_of:
         raise Problems("the sources changed while they were proved: what was built is perhaps of neither; build again")
     remember(ARCHIVE, made_of)
@@ -111,7 +123,7 @@ def prove():
 def run(progress):
     """Runs rt; its lines go to the log, what they tell of the crates is shown."""
     with heard() as stopped, open(LOG, "w", encoding="utf-8") as log, open(LOG, encoding="utf-8", errors="replace") as lines:
-        process = subprocess.Popen(["rt", "staticlib", "viskorrel"], cwd=ROOT, stdin=subprocess.DEVNULL, stdout=log, stderr=log,
+        process = subprocess.Popen(["rt", *WORDS], cwd=CRATE, stdin=subprocess.DEVNULL, stdout=log, stderr=log,
                                    start_new_session=True)  # so that all of it can be ended
         while process.poll() is None:
             if stopped:
@@ -127,7 +139,7 @@ def run(progress):
         raise KeyboardInterrupt
     progress.end()
     if process.returncode != 0:
-        raise Problems(f"rt staticlib viskorrel failed with status {process.returncode}; its lines are in {LOG}", *progress.failures)
+        raise Problems(f"{COMMAND} failed with status {process.returncode}; its lines are in {LOG}", *progress.failures)
 
 
 @contextlib.contextmanager
@@ -145,11 +157,15 @@ def heard():
 
 
 class Progress:
-    """Crate n of N and about how long it still takes, from rt's lines."""
+    """Crate n of N and about how long it still takes, from rt's lines. It takes one crate after the other, and is silent of what it proved before."""
+
+    STARTED = re.compile(r"rt: chose --jobs \d+ for (\w+)")
+    UNPROVED = re.compile(r"(?:fn|struct|impl) (\S+): (?:not proved|no proof)\b")
 
     def __init__(self, weights):
         self.weights = weights
         self.left = dict(weights)
+        self.proving = None
         self.pace = 0  # seconds for each unit of weight, of the crates that were proved in this run
         self.proved_now = 0  # their weight
         self.failures = []
@@ -160,26 +176,36 @@ class Progress:
     def read(self, text):
         *lines, self.rest = (self.rest + text).split("\n")
         for line in lines:
-            told = re.fullmatch(r"rt: (\w+) proved \((.*)\)", line)
-            if told:
-                self.passed(told[1], "unchanged" not in told[2])
-            elif line.startswith("rt: target/staticlib/"):
-                self.passed("viskorrel", True)
+            started, unproved = self.STARTED.fullmatch(line), self.UNPROVED.match(line)
+            if started:
+                self.started(started[1])
+            elif line.startswith("logic=proved "):
+                self.passed()
+            elif unproved:
+                self.failures.append(f"{unproved[1]} is not proved")
             elif line.startswith("rt: "):
                 self.failures.append(line)
 
-    def passed(self, crate, now):
-        weight = self.left.pop(crate, 0)
-        if weight and now:
+    def started(self, crate):
+        """What comes before it in rt's order and was not told of was proved by an earlier run."""
+        self.proving = crate
+        for before in list(self.left):
+            if before == crate:
+                break
+            del self.left[before]
+
+    def passed(self):
+        weight = self.left.pop(self.proving, 0)
+        if weight:
             self.proved_now += weight
             self.last = time.monotonic()
             self.pace = (self.last - self.start) / self.proved_now
-            self.show(f"{crate} proved")
+            self.show(f"{self.proving} proved")
 
     def sign(self):
         """A sign of life: in place on a terminal, else now and then."""
         if time.monotonic() - self.shown >= (1 if self.on_terminal else TICK):
-            self.show("proving")
+            self.show(f"proving {self.proving}" if self.proving in self.left else "proving")
 
     def show(self, what):
         self.shown = time.monotonic()

@@ -48,7 +48,7 @@ def sources():
         for entry in os.scandir(folders.pop()):
             if not entry.is_dir():
                 found.append(entry.path)
-            elif entry.name != "must-fail":  # no part of the library
+            elif entry.name not in ("must-fail", "out"):  # no part of the library; what rt makes
                 folders.append(entry.path)
     return found
 

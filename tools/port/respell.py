@@ -20,12 +20,14 @@ RECORD = re.compile(rf"(?:pub )?(?:record|data) ({WORD})")
 FIELD = re.compile(rf" +(?:pub )?({WORD}) :")
 LIBRARIES = ("std", "core")
 IN_CRATE = {"fixtures": {"longest-line": "longest_line_of", "shortest-line": "shortest_line_of"}}  # constructors that would fall together with operations
+# constructors that share a line, parameters of modules, names declared below others
+MORE = ("itemsOfKind", "pointClass", "lineClass", "polygonClass", "collectionClass", "unknownClass", "boxOf", "blockItems", "mapPair", "newBest", "otherLo", "otherHi", "noLine", "aLine")
 WHOLE = {"headerChecks3d": "header_checks_3d", "headerOf3d": "header_of_3d", "sumOf3": "sum_of_3", "Command-at": "CommandAt"}
 
 
 def crates():
     with open(os.path.join(ROOT, "crates.txt"), encoding="utf-8") as file:
-        return {line.split(":")[0].strip() for line in file if ":" in line and not line.startswith("#")}
+        return {line.split(":")[0].split()[0] for line in file if ":" in line and not line.startswith("#")}
 
 
 OWN = crates()
@@ -58,7 +60,7 @@ def declared(path, text):
             yield "spec" if "/specs/" in path else "lemma", match[1]
         elif match := DEFINED.match(line):
             rest = line[match.end():].strip()
-            if not made or not (rest.startswith("tie.") or "statement" in rest):
+            if not made or not (rest.startswith(("tie.", "goal.")) or "statement" in rest):
                 yield "spec" if "/specs/" in path else "lemma", match[1]
         elif (match := FIELD.match(line)) and not made:
             yield "field" if within is not None else "lemma", match[1]
@@ -107,6 +109,7 @@ def table(files):
             new += "_lem"
         if new != name:
             shared[name] = new
+    shared.update((name, snake(name)) for name in MORE)
     return shared, {path: {n: snake(n) for n in names if snake(n) != n and n not in shared} for path, names in local.items()}
 
 
