@@ -1,27 +1,28 @@
 -- Folds that skip, over joined lists and over steps that change nothing; the sweep, list after list. Assumes nothing.
-use mathlib.Core.Path.{◌≡◌, refl, sym, subst}
+use mathlib.Core.Path.{◌≡◌, refl}
 use mathlib.Core.Logic.{inr, ⊎_elim}
 use mathlib.Core.Bool.{Bool, true, false, ◌&&◌, cond, false≢true}
 use mathlib.Core.List.{List, [], ◌∷◌, ◌++◌}
-use mathlib.Core.Option.{Option, none, some}
-use lib.Dec.{T}
-use lib.Ieee.{lt, ne}
-use lib.Ieee.Compare.{differs_from_itself}
-use Rattle.ieee754.proofs.FloatOrder.{lt_nan_right}
+use Rattle.std.specs.Prelude.{None, Some}
+use Rattle.std.specs.declared.option.Option.{Option}
+use lib.Ieee.{lt}
 use Rattle.primitives.specs.declared.Witness.{Witness}
 use Rattle.primitives.specs.declared.Aabb.{Aabb}
 use Rattle.primitives.specs.Boxes.{least_squared_gap}
 use Rattle.extremes.specs.Sweeps.{skipping, shorter}
-use Rattle.extremes.proofs.Lists.{Each, each_all, each_weaken}
+use Rattle.extremes.proofs.Lists.{Each, each_weaken}
 use Rattle.extremes.proofs.Skipping.{skipping_stays}
+use Rattle.extremes.proofs.Senses.{shortest}
+use Rattle.extremes.proofs.NanBest.{nan_row_stays}
 use Rattle.extremes.proofs.Taking.{unbeaten_row}
-use Rattle.items.specs.Items.{Item, box_of_item}
+use Rattle.items.specs.declared.Item.{Item}
+use Rattle.items.specs.Items.{box_of_item}
 use Rattle.items.specs.Candidates.{candidates_of}
 use Rattle.measures.proofs.NotBelowZero.{Distant}
 use Rattle.items.proofs.NotBelowZero.{candidates_not_below}
 use Rattle.items.specs.Closest.{with_item, with_each, sweep_of}
 use Rattle.extremes.specs.ClosestSweep.{no_closer, offering, with_each_by, sweep_by}
-use Rattle.against.specs.Inner.{at_zero, at_nan, Lasts}
+use Rattle.extremes.specs.BestSoFar.{at_zero, at_nan, Lasts}
 
 module _ {S X : Type 0} (skip : S → X → Bool) (step : S → X → S) where
   skipping_append : (s : S) (l m : List X) → skipping skip step (skipping skip step s l) m ≡ skipping skip step s (l ++ m)
@@ -61,17 +62,13 @@ module _ (candidates : Item → Item → List Witness) where
   -- a best of distance 0 or NaN is never replaced
   module _ (distant : (a b : Item) → Each Distant (candidates a b)) where
     item_at_zero : (a b : Item) (s : Option Witness) → at_zero s ≡ true → offering candidates a s b ≡ s
-    item_at_zero a b none z = absurd (false≢true (unfold at_zero in z))
-    item_at_zero a b (some best) z =
-        unbeaten_row shorter (λ w. w) (some best) (candidates a b)
+    item_at_zero a b None z = absurd (false≢true (unfold at_zero in z))
+    item_at_zero a b (Some best) z =
+        unbeaten_row shorter (λ w. w) (Some best) (candidates a b)
         (each_weaken Distant (λ (w : Witness). lt w.d best.d ≡ false) (λ w h. h.distance best.d (unfold at_zero in z)) (candidates a b) (distant a b))
 
     item_at_nan : (a b : Item) (s : Option Witness) → at_nan s ≡ true → offering candidates a s b ≡ s
-    item_at_nan a b none z = absurd (false≢true (unfold at_nan in z))
-    item_at_nan a b (some best) z =
-        let n : ne best.d best.d ≡ true = unfold at_nan in z in
-        unbeaten_row shorter (λ w. w) (some best) (candidates a b)
-        (each_all (λ (w : Witness). lt w.d best.d ≡ false) (λ w. rw (differs_from_itself best.d (subst T (sym n) tt)) (lt_nan_right w.d)) (candidates a b))
+    item_at_nan a b s z = nan_row_stays shortest s z (λ w. w) (candidates a b)
 
     item_lasts : (a b : Item) (s : Option Witness) → Lasts s → offering candidates a s b ≡ s
     item_lasts a b s z = ⊎_elim (item_at_nan a b s) (item_at_zero a b s) z
@@ -95,6 +92,10 @@ each_none a s l e = rw e
 pub sweep_append : (all : Aabb) (rs : List Item) (s : Option Witness) (l m : List Item) → sweep_of all rs (sweep_of all rs s l) m ≡ sweep_of all rs s (l ++ m)
 unfolding sweep_of with_each with_item
 sweep_append = sweep_append_by candidates_of
+
+pub sweep_none : (all : Aabb) (rs : List Item) (s : Option Witness) (l : List Item) → l ≡ [] → sweep_of all rs s l ≡ s
+unfolding sweep_of skipping
+sweep_none all rs s l e = rw e
 
 pub each_next : (a b : Item) (box : Aabb) (s t : Option Witness) → box ≡ box_of_item a → t ≡ cond (no_closer s (least_squared_gap box (box_of_item b))) s (with_item a s b)
     → (l : List Item) → with_each a t l ≡ with_each a s (b ∷ l)

@@ -1,3 +1,3 @@
-pub mod Inner
+pub mod Boxed
 pub mod Indexed
 pub mod Known

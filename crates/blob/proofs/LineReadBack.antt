@@ -2,17 +2,17 @@
 use mathlib.Core.Path.{◌≡◌, refl, sym, ap, subst, ◌∙◌}
 use mathlib.Core.Bool.{true, false}
 use mathlib.Core.List.{List, [], ◌∷◌, ◌++◌, append-nil}
-use mathlib.Core.Option.{Option, none, some}
 use Prim.Native.Nat.{ℕ, suc, ◌^◌, ◌<◌, ◌≤◌}
 use native.Mathlib.Omega.{arith}
 use lib.Dec.{T}
 use lib.ListN.{length, get_or, take}
 use lib.Ieee.{Float, fits, binary64, to_bits}
 use borrow.Author.Tests.{le-ltb}
+use Rattle.std.specs.Prelude.{None, Ok}
 use Rattle.refusals.specs.Checks.{first_of}
+use Rattle.refusals.proofs.Checks.{accepted_is}
 use Rattle.fields.specs.Fields.{u32_at, bytes_of_u32, bytes_of_u64}
-use Rattle.gpb.specs.Header.{header_checks_3d, refused_or, header_of_3d}
-use Rattle.gpb.specs.declared.Header.TheVariants as gp
+use Rattle.gpb.specs.Header.{header_checks_3d, found_header, header_of_3d}
 use Rattle.gpb.specs.Written.{line_bytes, header_bytes, ordinate_bytes, coordinate_bytes, line_blob}
 use Rattle.gpb.proofs.HeaderLaws.{accepted_3d, accepted}
 use Rattle.gpb.proofs.ReadBack.{LineFields, line_header_back, line_fields_back, line_length, line_taken}
@@ -30,15 +30,9 @@ line_geometry c d = geometry 2 true false (line (c ∷ d ∷ []))
 
 -- header and walk accept a blob, which ends at byte 65 and gives no run but one line run, of c and d
 pub record ReadsAsLine (s : List ℕ) (c d : Coordinate) : Type 0 where
-  pub header : first_of (header_checks_3d s) ≡ none
+  pub header : first_of (header_checks_3d s) ≡ None
   pub walk : walk_of_blob s ≡ ok (line_geometry c d) line_bytes
   pub only_run : runs_of (line_geometry c d) ≡ run 2 (c ∷ d ∷ []) ∷ []
-
--- a header that is found refuses nothing
-pub found_none : (o : Option ℕ) (s : List ℕ) (at code srid : ℕ) → refused_or o s ≡ gp.Found at code srid → o ≡ none
-unfolding refused_or
-found_none none s at code srid h = refl
-found_none (some k) s at code srid h = let z : ◌≡◌ {A = ℕ} 0 1 = cc in absurd (omega arith)
 
 -- the walk at byte 8, by the bytes that it reads: little-endian, type 1002, count 2, six patterns
 walk_by_fields : (levels : ℕ) (s : List ℕ) (ax ay az bx by bz : ℕ) → line_bytes ≤ length s → get_or s 8 0 ≡ 1 → u32_at true s 9 ≡ 1002 → LineFields s ax ay az bx by bz → walk_of (suc levels) s 8 ≡ ok (line_geometry (coordinate_of ax ay az) (coordinate_of bx by bz)) line_bytes
@@ -63,8 +57,8 @@ module _ (srid : ℕ) (ax ay az bx by bz : Float) where
   type_bytes = refl
 
   module _ (small : srid < 2 ^ 32) (fax : T (fits binary64 ax)) (fay : T (fits binary64 ay)) (faz : T (fits binary64 az)) (fbx : T (fits binary64 bx)) (fby : T (fits binary64 by)) (fbz : T (fits binary64 bz)) where
-    header_is : header_of_3d blob ≡ gp.Found 8 1002 srid
-    header_is = subst (λ (s : List ℕ). header_of_3d s ≡ gp.Found 8 1002 srid) (append-nil blob) (line_header_back srid ax ay az bx by bz [] small)
+    header_is : header_of_3d blob ≡ Ok (record { at = 8; code = 1002; srid = srid })
+    header_is = subst (λ (s : List ℕ). header_of_3d s ≡ Ok (record { at = 8; code = 1002; srid = srid })) (append-nil blob) (line_header_back srid ax ay az bx by bz [] small)
 
     fields_are : LineFields blob (to_bits binary64 ax) (to_bits binary64 ay) (to_bits binary64 az) (to_bits binary64 bx) (to_bits binary64 by) (to_bits binary64 bz)
     fields_are = rw append-nil at (line_fields_back srid ax ay az bx by bz [] fax fay faz fbx fby fbz)
@@ -73,9 +67,9 @@ module _ (srid : ℕ) (ax ay az bx by bz : Float) where
     pub line_reads_back : ReadsAsLine (line_blob srid ax ay az bx by bz) (coordinate_of (to_bits binary64 ax) (to_bits binary64 ay) (to_bits binary64 az)) (coordinate_of (to_bits binary64 bx) (to_bits binary64 by) (to_bits binary64 bz))
     unfolding header_of_3d
     line_reads_back =
-        let start = (accepted blob 8 1002 srid (accepted_3d blob 8 1002 srid header_is).0).start in
+        let start = (accepted blob (record { at = 8; code = 1002; srid = srid }) (accepted_3d blob (record { at = 8; code = 1002; srid = srid }) header_is).0).start in
         record {
-          header = found_none (first_of (header_checks_3d blob)) blob 8 1002 srid header_is;
+          header = (accepted_is (first_of (header_checks_3d blob)) (found_header blob) (record { at = 8; code = 1002; srid = srid }) header_is).0;
           walk = ap (walk_of all_levels blob) (sym start) ∙ walk_by_fields 32 blob _ _ _ _ _ _ (omega (arith, line_length srid ax ay az bx by bz)) order_byte type_bytes fields_are;
           only_run = one_run _ _;
         }

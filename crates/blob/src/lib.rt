@@ -3,35 +3,29 @@
 #![tactic(auto)]
 
 ghost use Rattle.std.specs.Prelude.{◌≡◌};
-ghost use Rattle.refusals.specs.Checks.{first_of};
+ghost use Rattle.std.specs.Result.{result_map_both};
+ghost use Rattle.refusals.specs.Table.{sided};
+ghost use Rattle.refusals.specs.Checks.{first_of, refused_or, on_side};
+ghost use Rattle.refusals.specs.declared.Side.TheVariants.{First};
 ghost use Rattle.gpb.specs.Header.{geometry_start, header_checks, header_checks_3d};
 ghost use Rattle.coords.specs.Refusals.{walk_checks};
-ghost use Rattle.workspace.specs.Workspace.{too_small_for};
 ghost use Rattle.blob.specs.Blob.{bytes_checks, sizes_of, BlobOutcome};
-ghost use Rattle.blob.specs.Inner.{top_header_of, header_by, operand_by, room_by};
+ghost use Rattle.blob.specs.Inner.{top_of, top_header_of, operand_of, room_checks};
 
-use coords::Counts;
 use gpb::Header;
-use refusals::Refusal;
+use refusals::{Reason, Refusal, Side};
 use workspace::{FLOATS_PER_COORDINATE, NUMBERS_PER_RUN};
 
 // Where a blob's geometry starts, and the SRID's bits.
-#[derive(Clone, Copy)]
+#[derive(Clone, Copy, PartialEq, Eq, Debug)]
 pub struct TopHeader {
     pub at: usize,
     pub srid: u32,
 }
 
-// What a header says, or its refusal.
-#[derive(Clone, Copy)]
-pub enum HeaderRead {
-    Found(TopHeader),
-    Refused(Refusal),
-}
-
 // Where a blob's geometry starts and ends, its coordinates and runs, those of them that are points or faces, and the
 // SRID's bits.
-#[derive(Clone, Copy)]
+#[derive(Clone, Copy, PartialEq, Eq, Debug)]
 pub struct Operand {
     pub at: usize,
     pub end: usize,
@@ -41,150 +35,115 @@ pub struct Operand {
     pub srid: u32,
 }
 
-// A blob whose bytes are in order, or its refusal.
-#[derive(Clone, Copy)]
-pub enum OperandRead {
-    Read(Operand),
-    Refused(Refusal),
-}
-
 // The lengths of the memory lent for a blob.
-#[derive(Clone, Copy)]
+#[derive(Clone, Copy, PartialEq, Eq, Debug)]
 pub struct Lent {
     pub floats: usize,
     pub numbers: usize,
 }
 
-// Whether lent memory has room for a blob, or its refusal.
-#[derive(Clone, Copy)]
-pub enum RoomChecked {
-    Enough,
-    Refused(Refusal),
+// Coordinates, runs and the SRID's bits of a blob that was read.
+#[derive(Clone, Copy, PartialEq, Eq, Debug)]
+pub struct BlobRead {
+    pub coords: usize,
+    pub runs: usize,
+    pub srid: u32,
 }
 
-// The lengths to lend for a blob, or its refusal.
-#[derive(Clone, Copy)]
-pub enum Sizes {
-    Lend { floats: usize, numbers: usize },
-    Refused(Refusal),
-}
-
-// The bytes of a blob that was written into lent output, or a refusal.
-#[derive(Clone, Copy)]
-pub enum WrittenSize {
-    Bytes(usize),
-    Refused(Refusal),
-}
-
-// Coordinates, runs and the SRID's bits of a blob that was read, or its refusal.
-#[derive(Clone, Copy)]
-pub enum BlobRead {
-    Read {
-        coords: usize,
-        runs: usize,
-        srid: u32,
-    },
-    Refused(Refusal),
+// What a header says, or its refusal of a side.
+fn top_header(header: Result<Header, Reason>, side: Side) -> Result<TopHeader, Refusal>
+    ensures { result ≡ result_map_both top_of (sided side) header }
+{
+    match header {
+        Ok(header) => Ok(TopHeader {
+            at: header.at,
+            srid: header.srid,
+        }),
+        Err(reason) => Err(reason.of(side)),
+    }
 }
 
 // The header of a side, with no Z test.
-pub fn read_header(s: &[u8], side: u8) -> HeaderRead
-    ensures { result ≡ header_by (first_of (header_checks s.now)) side s.now }
+#[tactic(auto, using(refusals::proofs::Sides::map_side), unfolding(gpb::specs::Header::header_of))]
+pub fn read_header(s: &[u8], side: Side) -> Result<TopHeader, Refusal>
+    ensures { result ≡ refused_or (first_of (on_side side (header_checks s.now))) (top_header_of s.now) }
 {
-    match gpb::read_header(s) {
-        Header::Refused(number) => HeaderRead::Refused(Refusal { number, side }),
-        Header::Found { at, code, srid } => HeaderRead::Found(TopHeader { at, srid }),
-    }
+    top_header(gpb::read_header(s), side)
 }
 
 // The header of a side of a two-blob operation.
-pub fn read_header_3d(s: &[u8], side: u8) -> HeaderRead
-    ensures { result ≡ header_by (first_of (header_checks_3d s.now)) side s.now }
+#[tactic(auto, using(refusals::proofs::Sides::map_side), unfolding(gpb::specs::Header::header_of_3d))]
+pub fn read_header_3d(s: &[u8], side: Side) -> Result<TopHeader, Refusal>
+    ensures { result ≡ refused_or (first_of (on_side side (header_checks_3d s.now))) (top_header_of s.now) }
 {
-    match gpb::read_header_3d(s) {
-        Header::Refused(number) => HeaderRead::Refused(Refusal { number, side }),
-        Header::Found { at, code, srid } => HeaderRead::Found(TopHeader { at, srid }),
-    }
+    top_header(gpb::read_header_3d(s), side)
 }
 
 // The walk of a side, whose header is read.
-pub fn read_walk(s: &[u8], top: TopHeader, side: u8) -> OperandRead
+#[tactic(auto, using(crate::proofs::Steps::walk_read))]
+pub fn read_walk(s: &[u8], top: TopHeader, side: Side) -> Result<Operand, Refusal>
     requires { top ≡ top_header_of s.now }
-    ensures { result ≡ operand_by (first_of (walk_checks s.now (geometry_start s.now))) side s.now }
+    ensures { result ≡ refused_or (first_of (on_side side (walk_checks s.now (geometry_start s.now)))) (operand_of s.now) }
 {
     match coords::count(s, top.at) {
-        Counts::Refused(number) => OperandRead::Refused(Refusal { number, side }),
-        Counts::Accepted {
-            coords,
-            runs,
-            others,
-            end,
-        } => OperandRead::Read(Operand {
+        Err(reason) => Err(reason.of(side)), // the walk's
+        Ok(counts) => Ok(Operand {
             at: top.at,
-            end: end,
-            coords,
-            runs,
-            others,
+            end: counts.end,
+            coords: counts.coords,
+            runs: counts.runs,
+            others: counts.others,
             srid: top.srid,
         }),
     }
 }
 
 // 15 of a side, by the lengths lent.
-pub fn check_room(o: Operand, lent: Lent, side: u8) -> RoomChecked
-    ensures { result ≡ room_by (too_small_for o.coords o.runs lent.floats lent.numbers) side }
+#[tactic(auto, unfolding(refusals::specs::Checks::first_of, refusals::specs::Checks::on_side))]
+pub fn check_room(o: Operand, lent: Lent, side: Side) -> Result<(), Refusal>
+    ensures { result ≡ refused_or (first_of (on_side side (room_checks o lent))) tt }
 {
     if workspace::too_small(o.coords, o.runs, lent.floats, lent.numbers) {
-        return RoomChecked::Refused(Refusal { number: 15, side });
+        return Err(Reason::WorkspaceTooSmall.of(side));
     }
-    RoomChecked::Enough
+    Ok(())
 }
 
 // The header's checks, then the walk's, of the one blob there is.
-fn check_bytes(s: &[u8]) -> OperandRead
-    ensures { result ≡ operand_by (first_of (bytes_checks s.now)) 1 s.now }
+#[tactic(auto, using(refusals::proofs::Sides::of_side))]
+fn check_bytes(s: &[u8]) -> Result<Operand, Refusal>
+    ensures { result ≡ refused_or (first_of (on_side First (bytes_checks s.now))) (operand_of s.now) }
 {
-    match read_header(s, 1) {
-        HeaderRead::Refused(refusal) => OperandRead::Refused(refusal),
-        HeaderRead::Found(top) => read_walk(s, top, 1),
-    }
+    let top = read_header(s, Side::First)?;
+    read_walk(s, top, Side::First)
 }
 
 // The lengths to lend for a blob: floats, and numbers of the table.
-pub fn blob_sizes(s: &[u8]) -> Sizes
+#[tactic(auto, using(crate::proofs::Outcome::sizes))]
+pub fn blob_sizes(s: &[u8]) -> Result<Lent, Refusal>
     ensures { result ≡ sizes_of s.now }
 {
-    match check_bytes(s) {
-        OperandRead::Refused(refusal) => Sizes::Refused(refusal),
-        OperandRead::Read(o) => Sizes::Lend {
-            floats: FLOATS_PER_COORDINATE * o.coords,
-            numbers: NUMBERS_PER_RUN * o.runs,
-        },
-    }
+    let o = check_bytes(s)?;
+    Ok(Lent {
+        floats: FLOATS_PER_COORDINATE * o.coords,
+        numbers: NUMBERS_PER_RUN * o.runs,
+    })
 }
 
 // A blob's coordinates and runs into lent memory.
-pub fn read_blob(s: &[u8], floats: &mut [f64], table: &mut [u32]) -> BlobRead
+pub fn read_blob(s: &[u8], floats: &mut [f64], table: &mut [u32]) -> Result<BlobRead, Refusal>
     ensures { BlobOutcome s.now floats.old table.old floats.new table.new result }
 {
-    match check_bytes(s) {
-        OperandRead::Refused(refusal) => BlobRead::Refused(refusal),
-        OperandRead::Read(o) => {
-            let lent = Lent {
-                floats: floats.len(),
-                numbers: table.len(),
-            };
-            match check_room(o, lent, 1) {
-                RoomChecked::Refused(refusal) => BlobRead::Refused(refusal),
-                RoomChecked::Enough => {
-                    workspace::fill(s, o.at, floats, table);
-                    BlobRead::Read {
-                        coords: o.coords,
-                        runs: o.runs,
-                        srid: o.srid,
-                    }
-                }
-            }
-        }
-    }
+    let o = check_bytes(s)?;
+    let lent = Lent {
+        floats: floats.len(),
+        numbers: table.len(),
+    };
+    check_room(o, lent, Side::First)?;
+    workspace::fill(s, o.at, floats, table);
+    Ok(BlobRead {
+        coords: o.coords,
+        runs: o.runs,
+        srid: o.srid,
+    })
 }

@@ -3,7 +3,8 @@ use mathlib.Core.Path.{◌≡◌, refl, sym, ap, ◌∙◌, subst}
 use mathlib.Core.Logic.{◌⊎◌, inl, inr}
 use mathlib.Core.Bool.{Bool, true, false, cond, false≢true}
 use mathlib.Core.List.{List, [], ◌∷◌, foldl}
-use mathlib.Core.Option.{Option, none, some}
+use Rattle.std.specs.Prelude.{None, Some}
+use Rattle.std.specs.declared.option.Option.{Option}
 use Prim.Native.Nat.{◌-◌, ◌^◌}
 use lib.Dec.{T}
 use lib.IntN.{negsuc}
@@ -22,7 +23,8 @@ use Rattle.primitives.specs.Boxes.{squared, least_squared_gap}
 use Rattle.extremes.specs.Sweeps.{skipping, one_minus_slack}
 use Rattle.extremes.proofs.Lists.{Each}
 use Rattle.extremes.proofs.BoxOfAll.{Axis, EndsFit, Fitting, axis_x, axis_y, axis_z}
-use Rattle.items.specs.Items.{Item, box_of_item}
+use Rattle.items.specs.declared.Item.{Item}
+use Rattle.items.specs.Items.{box_of_item}
 use Rattle.items.specs.Closest.{with_each}
 use Rattle.extremes.specs.ClosestSweep.{no_closer}
 use Rattle.blocks.specs.Cover.{lower_of, upper_of, cover_of, empty_cover, cover_item, cover_of_items}
@@ -43,9 +45,9 @@ CoversOn lo hi lo' hi' = LowerBound lo lo' × UpperBound hi hi'
 
 -- K covers M on each axis
 pub record Covers (K M : Aabb) : Type 0 where
-  pub on_x : CoversOn K.lo_x K.hi_x M.lo_x M.hi_x
-  pub on_y : CoversOn K.lo_y K.hi_y M.lo_y M.hi_y
-  pub on_z : CoversOn K.lo_z K.hi_z M.lo_z M.hi_z
+  pub on_x : CoversOn K.lo.x K.hi.x M.lo.x M.hi.x
+  pub on_y : CoversOn K.lo.y K.hi.y M.lo.y M.hi.y
+  pub on_z : CoversOn K.lo.z K.hi.z M.lo.z M.hi.z
 
 -- ---- a covering box is no farther
 
@@ -89,8 +91,8 @@ module _ (a K M : Aabb) (fa : Fitting a) (fk : Fitting K) (fm : Fitting M) (c : 
 -- what is skipped against K is skipped against each M that K covers
 pub covered_skipped : (a K M : Aabb) → Fitting a → Fitting K → Fitting M → Covers K M → (s : Option Witness) → no_closer s (least_squared_gap a K) ≡ true → no_closer s (least_squared_gap a M) ≡ true
 unfolding no_closer
-covered_skipped a K M fa fk fm c none h = absurd (false≢true h)
-covered_skipped a K M fa fk fm c (some best) h =
+covered_skipped a K M fa fk fm c None h = absurd (false≢true h)
+covered_skipped a K M fa fk fm c (Some best) h =
     let d = best.d in
     is_true (le (squared d) (mul binary64 (least_squared_gap a M) one_minus_slack))
     (le_transitive (squared d) (mul binary64 (least_squared_gap a K) one_minus_slack) (mul binary64 (least_squared_gap a M) one_minus_slack) (mul-fits binary64 d d) (mul-fits binary64 (least_squared_gap a K) one_minus_slack) (mul-fits binary64 (least_squared_gap a M) one_minus_slack)
@@ -178,9 +180,9 @@ module _ (k m : Aabb) (fk : Fitting k) (fm : Fitting m) where
   unfolding axis_x axis_y axis_z cover_of
   cover_fitting =
       record {
-        ends_x = (lower_fits k.lo_x m.lo_x fk.ends_x.0 fm.ends_x.0, upper_fits k.hi_x m.hi_x fk.ends_x.1 fm.ends_x.1);
-        ends_y = (lower_fits k.lo_y m.lo_y fk.ends_y.0 fm.ends_y.0, upper_fits k.hi_y m.hi_y fk.ends_y.1 fm.ends_y.1);
-        ends_z = (lower_fits k.lo_z m.lo_z fk.ends_z.0 fm.ends_z.0, upper_fits k.hi_z m.hi_z fk.ends_z.1 fm.ends_z.1);
+        ends_x = (lower_fits k.lo.x m.lo.x fk.ends_x.0 fm.ends_x.0, upper_fits k.hi.x m.hi.x fk.ends_x.1 fm.ends_x.1);
+        ends_y = (lower_fits k.lo.y m.lo.y fk.ends_y.0 fm.ends_y.0, upper_fits k.hi.y m.hi.y fk.ends_y.1 fm.ends_y.1);
+        ends_z = (lower_fits k.lo.z m.lo.z fk.ends_z.0 fm.ends_z.0, upper_fits k.hi.z m.hi.z fk.ends_z.1 fm.ends_z.1);
       }
 
   -- it covers the box
@@ -188,9 +190,9 @@ module _ (k m : Aabb) (fk : Fitting k) (fm : Fitting m) where
   unfolding axis_x axis_y axis_z cover_of
   cover_covers =
       record {
-        on_x = axis_covers k.lo_x k.hi_x m.lo_x m.hi_x fm.ends_x.0 fm.ends_x.1;
-        on_y = axis_covers k.lo_y k.hi_y m.lo_y m.hi_y fm.ends_y.0 fm.ends_y.1;
-        on_z = axis_covers k.lo_z k.hi_z m.lo_z m.hi_z fm.ends_z.0 fm.ends_z.1;
+        on_x = axis_covers k.lo.x k.hi.x m.lo.x m.hi.x fm.ends_x.0 fm.ends_x.1;
+        on_y = axis_covers k.lo.y k.hi.y m.lo.y m.hi.y fm.ends_y.0 fm.ends_y.1;
+        on_z = axis_covers k.lo.z k.hi.z m.lo.z m.hi.z fm.ends_z.0 fm.ends_z.1;
       }
 
   -- and what k covers
@@ -198,9 +200,9 @@ module _ (k m : Aabb) (fk : Fitting k) (fm : Fitting m) where
   unfolding axis_x axis_y axis_z cover_of
   cover_keeps n fn c =
       record {
-        on_x = axis_keeps k.lo_x k.hi_x m.lo_x m.hi_x n.lo_x n.hi_x fk.ends_x.0 fk.ends_x.1 fm.ends_x.0 fm.ends_x.1 fn.ends_x.0 fn.ends_x.1 c.on_x;
-        on_y = axis_keeps k.lo_y k.hi_y m.lo_y m.hi_y n.lo_y n.hi_y fk.ends_y.0 fk.ends_y.1 fm.ends_y.0 fm.ends_y.1 fn.ends_y.0 fn.ends_y.1 c.on_y;
-        on_z = axis_keeps k.lo_z k.hi_z m.lo_z m.hi_z n.lo_z n.hi_z fk.ends_z.0 fk.ends_z.1 fm.ends_z.0 fm.ends_z.1 fn.ends_z.0 fn.ends_z.1 c.on_z;
+        on_x = axis_keeps k.lo.x k.hi.x m.lo.x m.hi.x n.lo.x n.hi.x fk.ends_x.0 fk.ends_x.1 fm.ends_x.0 fm.ends_x.1 fn.ends_x.0 fn.ends_x.1 c.on_x;
+        on_y = axis_keeps k.lo.y k.hi.y m.lo.y m.hi.y n.lo.y n.hi.y fk.ends_y.0 fk.ends_y.1 fm.ends_y.0 fm.ends_y.1 fn.ends_y.0 fn.ends_y.1 c.on_y;
+        on_z = axis_keeps k.lo.z k.hi.z m.lo.z m.hi.z n.lo.z n.hi.z fk.ends_z.0 fk.ends_z.1 fm.ends_z.0 fm.ends_z.1 fn.ends_z.0 fn.ends_z.1 c.on_z;
       }
 
 pub empty_fitting : Fitting empty_cover

@@ -1,61 +1,54 @@
 -- Rows of blocks that grow, block after block and class after class; how many rows there are. Assumes nothing.
 use mathlib.Core.Path.{◌≡◌, refl, sym, ap, ◌∙◌}
 use mathlib.Core.Bool.{Bool, true, false, cond}
-use mathlib.Core.List.{List, [], ◌∷◌, ◌++◌, append_assoc}
+use mathlib.Core.List.{List, [], ◌∷◌, ◌++◌, append_assoc, append-nil}
 use Prim.Native.Nat.{ℕ, zero, suc, ◌+◌, ◌-◌, ◌*◌, ◌/◌, ◌<◌, ◌≤◌}
 use native.Mathlib.Nat.{add-mul, one-mul, zero-mul, mul_comm, le_of_lt, lt_of_mul-lt-mul_right, div-mul-le_self, lt-mul-div-succ}
-use native.Mathlib.Numerals.{add-one}
 use native.Mathlib.Omega.{arith}
 use borrow.Author.Tests.{eqb-true, eqb-false, ne_eqb}
-use borrow.Author.Count.{below_more, below_none}
 use lib.Dec.{eqb}
-use lib.ListN.{length, take, drop, length-append, drop_of_length-le}
-use lib.Seq.{sets, drop-drop}
+use lib.ListN.{length, take, drop, set, length-append, drop_of_length-le}
+use lib.Seq.{drop-drop}
+use Rattle.std.proofs.lemmas.List.{take_more_set}
+use Rattle.std.proofs.lemmas.List.Elements.{All-nil, All-push}
+use Rattle.std.proofs.lemmas.Grind.{flat_map-append}
 use lib.Ieee.{Float}
 use Rattle.coords.specs.Parts.{Run}
 use Rattle.primitives.specs.declared.Point.{Point}
 use Rattle.parts.specs.Stored.{stored_runs, Laid}
 use Rattle.parts.proofs.Turns.{room_start}
-use Rattle.items.specs.Items.{Item, items_of}
+use Rattle.items.specs.declared.Item.{Item}
+use Rattle.items.specs.Items.{items_of}
 use Rattle.items.specs.Inner.{class_items}
-use Rattle.items.specs.declared.Class.{Class}
+use Rattle.parts.specs.declared.Class.{Class}
 use Rattle.items.proofs.Added.{AddedBut}
-use Rattle.items.specs.declared.Class.TheVariants.{Points, Segments, Triangles}
+use Rattle.parts.specs.declared.Class.TheVariants.{Points, Lines, Faces}
 use Rattle.listing.specs.declared.Place.{Place}
-use Rattle.listing.specs.Rows.{floats_per_box, box_floats, numbers_per_place, place_numbers}
-use Rattle.listing.proofs.Rows.{box_put, box_kept, place_put, place_kept}
+use Rattle.listing.specs.declared.Row.{Row}
 use Rattle.blocks.specs.Spans.{items_past, items_from, item_total, RoomPast, Spanned}
-use Rattle.blocks.specs.Blocks.{most_rows, block_count, blocks_from, Rows, CutsMore}
+use Rattle.blocks.specs.Blocks.{most_rows, block_count, block_items, Block, Cut, CutsMore}
 use Rattle.blocks.specs.declared.Span.{Span}
-use Rattle.blocks.proofs.Blocks.{blocks_more, blocks_same}
 use Rattle.blocks.proofs.Spans.{length_total}
 
 -- ---- one block more
 module _ (size : ℕ) (table : List ℕ) (floats : List Float) where
-  pub rows_none : (boxes : List Float) (places : List ℕ) → Rows size table floats 0 [] boxes places
-  unfolding blocks_from
-  rows_none boxes places = record { blocks = below_none _; items = refl }
+  pub cut_none : (rows : List Row) → Cut size table floats [] (take 0 rows)
+  cut_none rows = record { blocks = All-nil (Block size table floats); items = refl }
 
-  module _ (n : ℕ) (p : Place) (span : Span) (room : RoomPast table floats p.r p.at) (spanned : Spanned span table floats p size)
-      (boxes : List Float) (places : List ℕ) (hb : floats_per_box * (n + 1) ≤ length boxes) (hp : numbers_per_place * (n + 1) ≤ length places) where
-    pub rows_more : (is : List Item) → Rows size table floats n is boxes places
-        → Rows size table floats (n + 1) (is ++ take size (items_from table floats p)) (sets boxes (floats_per_box * n) (box_floats span.all)) (sets places (numbers_per_place * n) (place_numbers p))
-    rows_more is old =
-        record {
-          blocks = below_more _ _
-              (λ m h. record { room = rw (place_kept places n p m h) (old.blocks m h).room; cover = rw (place_kept places n p m h) (box_kept boxes n span.all m h ∙ (old.blocks m h).cover) })
-              (record { room = rw (place_put places n p hp) room; cover = rw (place_put places n p hp) (box_put boxes n span.all hb ∙ spanned.cover) });
-          items =
-              let z : 0 + n ≡ n = omega arith in
-              rw add-one
-              (blocks_more size table floats _ n 0
-              ∙ rw (blocks_same size table floats places (sets places (numbers_per_place * n) (place_numbers p)) n 0 (λ m g. place_kept places n p m (omega arith)), old.items, z, place_put places n p hp));
-        }
+  pub cut_more : (n : ℕ) (p : Place) (span : Span) → RoomPast table floats p.r p.at → Spanned span table floats p size → (rows : List Row) → n < length rows → (is : List Item)
+      → Cut size table floats is (take n rows) → Cut size table floats (is ++ take size (items_from table floats p)) (take (n + 1) (set rows n (record { bounds = span.all; first = p })))
+  cut_more n p span room spanned rows h is old =
+      let row : Row = record { bounds = span.all; first = p } in
+      rw (take_more_set rows n row h)
+      (record {
+        blocks = All-push (Block size table floats) (take n rows) row old.blocks (record { room = room; cover = spanned.cover });
+        items = flat_map-append (block_items size table floats) (take n rows) (row ∷ []) ∙ rw (append-nil, old.items);
+      })
 
 -- ---- some items of a whole
 -- what the first rows have, and the items after it but for those that are left, is what the later rows have
-abbrev pub AddsBut : List Item → List Item → ℕ → List ℕ → List Float → ℕ → List Float → List ℕ → ℕ → List Float → List ℕ → Type 0
-AddsBut left more size table floats n boxes places n' boxes' places' = AddedBut left more (λ is. Rows size table floats n is boxes places) (λ is. Rows size table floats n' is boxes' places')
+abbrev pub AddsBut : List Item → List Item → ℕ → List ℕ → List Float → ℕ → List Row → ℕ → List Row → Type 0
+AddsBut left more size table floats n rows n' rows' = AddedBut left more (λ is. Cut size table floats is (take n rows)) (λ is. Cut size table floats is (take n' rows'))
 
 -- ---- the places of a class, block after block
 abbrev first_place : Class → Place
@@ -132,26 +125,26 @@ module _ (table : List ℕ) (floats : List Float) (size : ℕ) (h : 0 < size) wh
   abbrev count_of : Class → ℕ
   count_of class = block_count size (item_total class table)
 
-  total_is : length (items_of (stored_runs table floats)) ≡ item_total Points table + (item_total Segments table + item_total Triangles table)
+  total_is : length (items_of (stored_runs table floats)) ≡ item_total Points table + (item_total Lines table + item_total Faces table)
   unfolding items_of
   total_is =
       length-append (class_items Points (stored_runs table floats)) _
-      ∙ rw (length-append (class_items Segments (stored_runs table floats)) (class_items Triangles (stored_runs table floats)), length_total Points table floats, length_total Segments table floats, length_total Triangles table floats)
+      ∙ rw (length-append (class_items Lines (stored_runs table floats)) (class_items Faces (stored_runs table floats)), length_total Points table floats, length_total Lines table floats, length_total Faces table floats)
 
-  pub rows_few : length (items_of (stored_runs table floats)) < 128 * size → count_of Points + count_of Segments + count_of Triangles ≤ most_rows
+  pub rows_few : length (items_of (stored_runs table floats)) < 128 * size → count_of Points + count_of Lines + count_of Faces ≤ most_rows
   rows_few g =
       let p = (count_holds size (item_total Points table) h).1 in
-      let s = (count_holds size (item_total Segments table) h).1 in
-      let t = (count_holds size (item_total Triangles table) h).1 in
-      let e : (count_of Points + count_of Segments + count_of Triangles) * size ≡ count_of Points * size + count_of Segments * size + count_of Triangles * size = add-mul (count_of Points + count_of Segments) (count_of Triangles) size ∙ ap (λ (n : ℕ). n + count_of Triangles * size) (add-mul (count_of Points) (count_of Segments) size) in
+      let s = (count_holds size (item_total Lines table) h).1 in
+      let t = (count_holds size (item_total Faces table) h).1 in
+      let e : (count_of Points + count_of Lines + count_of Faces) * size ≡ count_of Points * size + count_of Lines * size + count_of Faces * size = add-mul (count_of Points + count_of Lines) (count_of Faces) size ∙ ap (λ (n : ℕ). n + count_of Faces * size) (add-mul (count_of Points) (count_of Lines) size) in
       let d : 131 * size ≡ 128 * size + 3 * size = add-mul 128 3 size in
-      let l : (count_of Points + count_of Segments + count_of Triangles) * size < 131 * size = omega (arith, e, d, p, s, t, total_is, g, h) in
+      let l : (count_of Points + count_of Lines + count_of Faces) * size < 131 * size = omega (arith, e, d, p, s, t, total_is, g, h) in
       le_of_lt (lt_of_mul-lt-mul_right size l)
 
 -- the items of the classes, one class after the other, are all items
-pub cut_classes : (rs : List (Run Point)) {size : ℕ} {table : List ℕ} {floats boxes₀ boxes₁ boxes₂ boxes₃ : List Float} {places₀ places₁ places₂ places₃ : List ℕ} {n₁ n₂ n₃ : ℕ}
-    → CutsMore (class_items Points rs) size table floats 0 boxes₀ places₀ n₁ boxes₁ places₁ → CutsMore (class_items Segments rs) size table floats n₁ boxes₁ places₁ n₂ boxes₂ places₂
-    → CutsMore (class_items Triangles rs) size table floats n₂ boxes₂ places₂ n₃ boxes₃ places₃ → Rows size table floats n₃ (items_of rs) boxes₃ places₃
+pub cut_classes : (rs : List (Run Point)) (size : ℕ) (table : List ℕ) (floats : List Float) (rows₀ rows₁ rows₂ rows₃ : List Row) (n₁ n₂ n₃ : ℕ)
+    → CutsMore (class_items Points rs) size table floats 0 rows₀ n₁ rows₁ → CutsMore (class_items Lines rs) size table floats n₁ rows₁ n₂ rows₂
+    → CutsMore (class_items Faces rs) size table floats n₂ rows₂ n₃ rows₃ → Cut size table floats (items_of rs) (take n₃ rows₃)
 unfolding items_of
-cut_classes rs {size} {table} {floats} {boxes₀} {places₀ = places₀} points segments triangles =
-    rw (← append_assoc) (triangles (class_items Points rs ++ class_items Segments rs) (segments (class_items Points rs) (points [] (rows_none size table floats boxes₀ places₀))))
+cut_classes rs size table floats rows₀ rows₁ rows₂ rows₃ n₁ n₂ n₃ points segments triangles =
+    rw (← append_assoc) (triangles (class_items Points rs ++ class_items Lines rs) (segments (class_items Points rs) (points [] (cut_none size table floats rows₀))))

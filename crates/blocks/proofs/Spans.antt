@@ -11,9 +11,10 @@ use lib.Ieee.{Float}
 use Rattle.workspace.specs.Workspace.{numbers_per_run}
 use Rattle.parts.specs.Stored.{points_from, runs_from, stored_runs, run_count, kind_at, count_at, point_count}
 use Rattle.parts.proofs.Turns.{table_next, runs_next}
-use Rattle.items.specs.Items.{Item, items_of_kind}
+use Rattle.items.specs.declared.Item.{Item}
+use Rattle.items.specs.Items.{items_of_kind}
 use Rattle.items.specs.Inner.{is_of_class, items_by, class_items, item_count, item_at}
-use Rattle.items.specs.declared.Class.{Class}
+use Rattle.parts.specs.declared.Class.{Class}
 use Rattle.items.proofs.Turns.{items_left, left_start, left_none, turn_item, no_items}
 use Rattle.items.proofs.Laws.{count_at_most}
 use Rattle.blocks.specs.Spans.{item_count_in, items_past, item_total}

@@ -4,7 +4,8 @@ use mathlib.Core.List.{List, foldl}
 use Rattle.std.specs.Float.{inf}
 use Rattle.std.specs.Float.Ieee.{lt, le}
 use Rattle.primitives.specs.declared.Aabb.{Aabb}
-use Rattle.items.specs.Items.{Item, box_of_item}
+use Rattle.items.specs.declared.Item.{Item}
+use Rattle.items.specs.Items.{box_of_item}
 
 -- the lower of two ends; -infinity if one of them is NaN
 abbrev pub lower_of : Float → Float → Float
@@ -18,17 +19,13 @@ upper_of k m = cond (le m k) k (cond (lt k m) m (inf false))
 unfoldable pub cover_of : Aabb → Aabb → Aabb
 cover_of k m =
     record {
-      lo_x = lower_of k.lo_x m.lo_x;
-      lo_y = lower_of k.lo_y m.lo_y;
-      lo_z = lower_of k.lo_z m.lo_z;
-      hi_x = upper_of k.hi_x m.hi_x;
-      hi_y = upper_of k.hi_y m.hi_y;
-      hi_z = upper_of k.hi_z m.hi_z;
+      lo = record { x = lower_of k.lo.x m.lo.x; y = lower_of k.lo.y m.lo.y; z = lower_of k.lo.z m.lo.z };
+      hi = record { x = upper_of k.hi.x m.hi.x; y = upper_of k.hi.y m.hi.y; z = upper_of k.hi.z m.hi.z };
     }
 
 -- a start, with no box under it
 unfoldable pub empty_cover : Aabb
-empty_cover = record { lo_x = inf false; lo_y = inf false; lo_z = inf false; hi_x = inf true; hi_y = inf true; hi_z = inf true }
+empty_cover = record { lo = record { x = inf false; y = inf false; z = inf false }; hi = record { x = inf true; y = inf true; z = inf true } }
 
 -- a cover with one more item under it
 unfoldable pub cover_item : Aabb → Item → Aabb

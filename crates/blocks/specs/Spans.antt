@@ -2,9 +2,9 @@
 use Rattle.std.specs.Prelude.{ℕ, ◌+◌, ◌*◌, ◌≤◌, ◌≡◌, cond, List, [], ◌∷◌, length, take, drop, Float}
 use Rattle.workspace.specs.Workspace.{floats_per_coordinate, numbers_per_run}
 use Rattle.parts.specs.Stored.{runs_from, kind_at, count_at, point_count}
-use Rattle.items.specs.Items.{Item}
+use Rattle.items.specs.declared.Item.{Item}
 use Rattle.items.specs.Inner.{is_of_class, class_items, item_count}
-use Rattle.items.specs.declared.Class.{Class}
+use Rattle.parts.specs.declared.Class.{Class}
 use Rattle.listing.specs.declared.Place.{Place}
 use Rattle.blocks.specs.Cover.{cover_of_items}
 use Rattle.blocks.specs.declared.Span.{Span}

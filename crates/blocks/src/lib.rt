@@ -2,18 +2,17 @@
 // is kept that covers each block. A block is told by the place from which its items are counted (`items_from`); a listed item is as a block of one.
 #![tactic(auto)]
 
-ghost use Rattle.std.specs.Prelude.{◌≡◌, ◌+◌, ◌*◌, ◌<◌, ◌≤◌, length};
+ghost use Rattle.std.specs.Prelude.{◌≡◌, ◌+◌, ◌*◌, ◌<◌, ◌≤◌, length, take};
 ghost use Rattle.parts.specs.Stored.{stored_runs, run_count, Laid};
 ghost use Rattle.items.specs.Items.{items_of};
 ghost use Rattle.items.specs.Inner.{class_items};
-ghost use Rattle.listing.specs.Rows.{floats_per_box, numbers_per_place};
 ghost use Rattle.blocks.specs.Spans.{item_count_in, item_total, RoomPast, Spanned};
 ghost use Rattle.blocks.specs.Cover.{lower_of, upper_of, cover_of, empty_cover};
 ghost use Rattle.blocks.specs.Blocks.{most_rows, block_count, CutsMore, Cut};
 
-use items::Class;
-use listing::Place;
-use primitives::Aabb;
+use listing::{Place, Row};
+use parts::Class;
+use primitives::{Aabb, Point};
 
 // Where some items end, and a box that covers them.
 #[derive(Clone, Copy)]
@@ -48,12 +47,9 @@ fn item_total(class: Class, floats: &[f64], table: &[u32]) -> usize
     requires { Laid table.now floats.now }
     ensures { result ≡ item_total class table.now }
 {
-    let runs = parts::run_count(table);
     let mut total = 0;
-    let mut r = 0;
-    while r < runs {
+    for r in 0..parts::run_count(table) {
         total += items_in(class, table, r);
-        r += 1;
     }
     total
 }
@@ -63,12 +59,12 @@ fn lower(k: f64, m: f64) -> f64
     ensures { result ≡ lower_of k m }
 {
     if k <= m {
-        return k;
+        k
+    } else if m < k {
+        m
+    } else {
+        f64::NEG_INFINITY
     }
-    if m < k {
-        return m;
-    }
-    -1.0 / 0.0
 }
 
 // The upper of two ends; +infinity if one of them is NaN.
@@ -76,25 +72,30 @@ fn upper(k: f64, m: f64) -> f64
     ensures { result ≡ upper_of k m }
 {
     if m <= k {
-        return k;
+        k
+    } else if k < m {
+        m
+    } else {
+        f64::INFINITY
     }
-    if k < m {
-        return m;
-    }
-    1.0 / 0.0
 }
 
 // A box that covers m, and all that k covers.
+#[tactic(auto, unfolding(crate::specs::Cover::cover_of))]
 fn cover(k: Aabb, m: Aabb) -> Aabb
     ensures { result ≡ cover_of k m }
 {
     Aabb {
-        lo_x: lower(k.lo_x, m.lo_x),
-        lo_y: lower(k.lo_y, m.lo_y),
-        lo_z: lower(k.lo_z, m.lo_z),
-        hi_x: upper(k.hi_x, m.hi_x),
-        hi_y: upper(k.hi_y, m.hi_y),
-        hi_z: upper(k.hi_z, m.hi_z),
+        lo: Point {
+            x: lower(k.lo.x, m.lo.x),
+            y: lower(k.lo.y, m.lo.y),
+            z: lower(k.lo.z, m.lo.z),
+        },
+        hi: Point {
+            x: upper(k.hi.x, m.hi.x),
+            y: upper(k.hi.y, m.hi.y),
+            z: upper(k.hi.z, m.hi.z),
+        },
     }
 }
 
@@ -102,15 +103,19 @@ fn cover(k: Aabb, m: Aabb) -> Aabb
 fn empty_cover() -> Aabb
     ensures { result ≡ empty_cover }
 {
-    let infinity = 1.0 / 0.0;
-    let minus_infinity = -infinity;
+    let lo = f64::INFINITY;
+    let hi = f64::NEG_INFINITY;
     Aabb {
-        lo_x: infinity,
-        lo_y: infinity,
-        lo_z: infinity,
-        hi_x: minus_infinity,
-        hi_y: minus_infinity,
-        hi_z: minus_infinity,
+        lo: Point {
+            x: lo,
+            y: lo,
+            z: lo,
+        },
+        hi: Point {
+            x: hi,
+            y: hi,
+            z: hi,
+        },
     }
 }
 
@@ -136,7 +141,7 @@ fn cover_span(floats: &[f64], table: &[u32], from: Place, count: usize) -> Span
         let n = parts::count_at(table, r);
         let here = items_in(class, table, r);
         if j < here {
-            all = cover(all, items::box_of(items::item_at(class, floats, at, n, j)));
+            all = cover(all, items::item_at(class, floats, at, n, j).bounds());
             j += 1;
             left -= 1;
         } else {
@@ -155,67 +160,50 @@ fn cover_span(floats: &[f64], table: &[u32], from: Place, count: usize) -> Span
 fn cut_class(
     class: Class,
     size: usize,
-    rows: usize,
+    start: usize,
     floats: &[f64],
     table: &[u32],
-    boxes: &mut [f64],
-    places: &mut [usize],
+    rows: &mut [Row; 131],
 ) -> usize
     requires laid { Laid table.now floats.now }
     requires size_nonzero { 0 < size }
-    requires table_in_bounds { floats_per_box * (rows + block_count size (item_total class table.now)) ≤ length boxes.old }
-    requires table_in_bounds_2 { numbers_per_place * (rows + block_count size (item_total class table.now)) ≤ length places.old }
-    ensures value { result ≡ rows + block_count size (item_total class table.now) }
-    ensures cuts_more { CutsMore (class_items class (stored_runs table.now floats.now)) size table.now floats.now rows boxes.old places.old result boxes.new places.new }
+    requires table_in_bounds { start + block_count size (item_total class table.now) ≤ most_rows }
+    ensures value { result ≡ start + block_count size (item_total class table.now) }
+    ensures cuts_more { CutsMore (class_items class (stored_runs table.now floats.now)) size table.now floats.now start rows.old result rows.new }
 {
     let total = item_total(class, floats, table);
     if total == 0 {
-        return rows;
+        return start;
     }
-    let end = rows + ((total - 1) / size + 1);
+    let end = start + ((total - 1) / size + 1);
     let mut next = Place {
         class,
         r: 0,
         at: 0,
         j: 0,
     };
-    let mut k = rows;
-    while k < end {
+    for k in start..end {
         let span = cover_span(floats, table, next, size);
-        listing::put_place(places, k, next);
-        listing::put_box(boxes, k, span.all);
+        rows[k] = Row {
+            bounds: span.all,
+            first: next,
+        };
         next = span.next;
-        k += 1;
     }
     end
 }
 
 // All items of a side, total of them, in blocks.
-pub fn cut(
-    total: usize,
-    floats: &[f64],
-    table: &[u32],
-    boxes: &mut [f64],
-    places: &mut [usize],
-) -> Index
+pub fn cut(total: usize, floats: &[f64], table: &[u32], rows: &mut [Row; 131]) -> Index
     requires laid { Laid table.now floats.now }
     requires total_value { total ≡ length (items_of (stored_runs table.now floats.now)) }
-    requires most_rows_in_bounds { floats_per_box * most_rows ≤ length boxes.old }
-    requires most_rows_in_bounds_2 { numbers_per_place * most_rows ≤ length places.old }
     ensures lt_size { 1 < result.size }
-    ensures cut { Cut result.rows result.size (items_of (stored_runs table.now floats.now)) table.now floats.now boxes.new places.new }
+    ensures few { result.rows ≤ most_rows }
+    ensures cut { Cut result.size table.now floats.now (items_of (stored_runs table.now floats.now)) (take result.rows rows.new) }
 {
     let size = total / BLOCKS + 8;
-    let points = cut_class(Class::Points, size, 0, floats, table, boxes, places);
-    let segments = cut_class(Class::Segments, size, points, floats, table, boxes, places);
-    let rows = cut_class(
-        Class::Triangles,
-        size,
-        segments,
-        floats,
-        table,
-        boxes,
-        places,
-    );
-    Index { rows, size }
+    let points = cut_class(Class::Points, size, 0, floats, table, rows);
+    let segments = cut_class(Class::Lines, size, points, floats, table, rows);
+    let end = cut_class(Class::Faces, size, segments, floats, table, rows);
+    Index { rows: end, size }
 }

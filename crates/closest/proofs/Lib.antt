@@ -1,4 +1,4 @@
 -- The laws of the closest sweep.
 pub mod PointsOnly
 pub mod OnePoint
-pub mod Indexed
+pub mod Listed

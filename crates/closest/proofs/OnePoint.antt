@@ -2,7 +2,7 @@
 use mathlib.Core.Path.{◌≡◌, refl, ◌∙◌}
 use mathlib.Core.Bool.{Bool, true, false, ◌&&◌, false≢true}
 use mathlib.Core.List.{List, [], ◌∷◌, foldl}
-use mathlib.Core.Option.{none, some}
+use Rattle.std.specs.Prelude.{None, Some}
 use Prim.Native.Nat.{ℕ, ◌+◌, ◌*◌, ◌≤◌}
 use native.Mathlib.Omega.{arith}
 use borrow.Author.Tests.{eqb-true}
@@ -15,7 +15,9 @@ use Rattle.primitives.specs.declared.Aabb.{Aabb}
 use Rattle.parts.specs.Stored.{stored_point, points_from, stored_runs, run_count, kind_at, count_at, Laid}
 use Rattle.parts.proofs.Turns.{runs_next, runs_none, count_next}
 use Rattle.primitives.specs.Boxes.{union_of}
-use Rattle.items.specs.Items.{Item, point, point_items, items_of_kind, items_of, box_of_item, unite_item, box_of_items}
+use Rattle.items.specs.declared.Item.{Item}
+use Rattle.items.specs.declared.Item.TheVariants.{Point as point}
+use Rattle.items.specs.Items.{point_items, items_of_kind, items_of, box_of_item, unite_item, box_of_items}
 use Rattle.extremes.specs.Sweeps.{skipping}
 use Rattle.items.specs.Closest.{with_each, sweep_of, closest_within, closest_of}
 use Rattle.extremes.specs.ClosestSweep.{no_closer}
@@ -53,12 +55,12 @@ module _ (table : List ℕ) (h : is_one_point table ≡ true) where
   one_laid floats l = omega (arith, count_next table 0 (omega (arith, one_run)), of_one)
 
 -- the sweep from one item: nothing is skipped before there is a best
-from_some : (box : Aabb) (l : List Item) (a : Item) (rs : List Item) → closest_within (foldl unite_item (some box) l) (a ∷ []) rs ≡ with_each a none rs
+from_some : (box : Aabb) (l : List Item) (a : Item) (rs : List Item) → closest_within (foldl unite_item (Some box) l) (a ∷ []) rs ≡ with_each a None rs
 unfolding unite_item closest_within sweep_of skipping no_closer
 from_some box [] a rs = refl
 from_some box (i ∷ l) a rs = from_some (union_of box (box_of_item i)) l a rs
 
-pub from_one : (a : Item) (rs : List Item) → closest_of (a ∷ []) rs ≡ with_each a none rs
+pub from_one : (a : Item) (rs : List Item) → closest_of (a ∷ []) rs ≡ with_each a None rs
 unfolding closest_of box_of_items unite_item
 from_one a [] = unfold closest_within with_each skipping in refl
 from_one a (b ∷ rs) = from_some (box_of_item b) rs a (b ∷ rs)

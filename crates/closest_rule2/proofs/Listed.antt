@@ -1,20 +1,25 @@
--- The sweep by rule 2, by the box of a listing of side 2. Assumes nothing.
+-- The sweep by rule 2, by the box of side 2's items, and item after item. Assumes nothing.
 use mathlib.Core.Path.{◌≡◌}
-use mathlib.Core.List.{List}
-use mathlib.Core.Option.{none}
-use Prim.Native.Nat.{ℕ, ◌<◌}
-use borrow.Author.Tests.{lt-ltb}
-use lib.Ieee.{Float}
-use Rattle.items.specs.Items.{Item}
-use Rattle.listing.specs.declared.Listing.{Listing}
-use Rattle.listing.specs.Listing.{Lists}
-use Rattle.crossings.specs.Closest.{sweep_by_rule2, closest_within_by_rule2, closest_by_rule2}
+use mathlib.Core.List.{List, foldl}
+use Rattle.std.specs.Prelude.{None, Some}
+use Rattle.std.specs.declared.option.Option.{Option}
+use Rattle.primitives.specs.declared.Witness.{Witness}
+use Rattle.primitives.specs.declared.Aabb.{Aabb}
+use Rattle.items.specs.declared.Item.{Item}
+use Rattle.items.specs.Items.{box_of_items}
+use Rattle.crossings.specs.Closest.{with_each_by_rule2, sweep_by_rule2, closest_within_by_rule2, closest_by_rule2}
+use Rattle.against.proofs.Walks.{skipping_fold}
+use Rattle.closest_rule2.specs.Inner.{met_by_rule2}
 
-module _ (list : Listing) (rs : List Item) (floats boxes : List Float) (places : List ℕ) (lists : Lists list rs floats boxes places) where
-  pub listed_some : (ls : List Item) → 0 < list.count → closest_by_rule2 ls rs ≡ sweep_by_rule2 list.all rs none ls
-  unfolding closest_by_rule2 closest_within_by_rule2
-  listed_some ls h = rw (← lists.box, lt-ltb 0 list.count h)
+pub listed_some : (rs ls : List Item) (all : Aabb) → box_of_items rs ≡ Some all → closest_by_rule2 ls rs ≡ sweep_by_rule2 all rs None ls
+unfolding closest_by_rule2 closest_within_by_rule2
+listed_some rs ls all e = rw e
 
-  pub listed_nothing : (ls : List Item) → list.count ≡ 0 → closest_by_rule2 ls rs ≡ none
-  unfolding closest_by_rule2 closest_within_by_rule2
-  listed_nothing ls e = rw (← lists.box, e)
+pub listed_nothing : (rs ls : List Item) → box_of_items rs ≡ None → closest_by_rule2 ls rs ≡ None
+unfolding closest_by_rule2 closest_within_by_rule2
+listed_nothing rs ls e = rw e
+
+-- the sweep, item after item
+pub sweep_fold : (all : Aabb) (rs : List Item) (s : Option Witness) (ls : List Item) → sweep_by_rule2 all rs s ls ≡ foldl (met_by_rule2 all rs) s ls
+unfolding sweep_by_rule2
+sweep_fold all rs s ls = skipping_fold _ (λ t a. with_each_by_rule2 a t rs) s ls

@@ -9,10 +9,12 @@ use lib.Dec.{ltb, leb, eqb}
 use lib.ListN.{length}
 use borrow.Author.Tests.{eqb-true, ltb-false}
 use Rattle.fields.specs.Fields.{u32_at}
+use Rattle.std.specs.Prelude.{Option, None, Some, Ok, Err}
+use Rattle.refusals.specs.declared.Reason.TheVariants.{BytesMissing}
+use Rattle.coords.specs.declared.GeometryClass.{GeometryClass}
+use Rattle.coords.specs.declared.GeometryClass.TheVariants as class
 use Rattle.coords.specs.declared.WkbHeader.{WkbHeader}
-use Rattle.coords.specs.declared.ParsedHeader.{ParsedHeader}
-use Rattle.coords.specs.declared.ParsedHeader.TheVariants as header
-use Rattle.coords.specs.Walk.{Coordinate, Geometry, Parsed, ok, refused, map_parsed, stride, coordinates_from, and_then, cons_parsed, times, list_at, GeometryClass, point_class, line_class, polygon_class, collection_class, unknown_class, geometry_class_of, header_at, geometry_from, walk_of}
+use Rattle.coords.specs.Walk.{ParsedHeader, Coordinate, Geometry, Parsed, ok, refused, map_parsed, stride, coordinates_from, and_then, cons_parsed, times, list_at, geometry_class_of, header_at, geometry_from, walk_of}
 use Rattle.coords.specs.Parts.{Run, run, non_empty_run, runs_of}
 use Rattle.coords.specs.Inner.{ParsedRuns, coordinates_runs, line_runs, walk_runs}
 use Rattle.coords.proofs.Each.{Each, each_append}
@@ -23,18 +25,18 @@ abbrev pub RunKind : ℕ → Type 0
 RunKind k = (k ≡ 1) ⊎ ((k ≡ 2) ⊎ ((k ≡ 3) ⊎ (k ≡ 17)))
 
 -- what a class says of the kind
-KindOf : GeometryClass → ℕ → Type 0
-KindOf point_class k = RunKind k
-KindOf line_class k = RunKind k
-KindOf polygon_class k = RunKind k
-KindOf collection_class k = Unit
-KindOf unknown_class k = Unit
+KindOf : Option GeometryClass → ℕ → Type 0
+KindOf (Some class.Point) k = RunKind k
+KindOf (Some class.Line) k = RunKind k
+KindOf (Some class.Polygon) k = RunKind k
+KindOf (Some class.Collection) k = Unit
+KindOf None k = Unit
 
 class_kind : (k : ℕ) → KindOf (geometry_class_of k) k
 unfolding geometry_class_of KindOf
 class_kind k = go (eqb k 1) (eqb k 2) (eqb k 3) (eqb k 17) ((leb 4 k && leb k 7) || (eqb k 15 || eqb k 16)) refl refl refl refl
   where
-    go : (a b c d e : Bool) → eqb k 1 ≡ a → eqb k 2 ≡ b → eqb k 3 ≡ c → eqb k 17 ≡ d → KindOf (cond a point_class (cond b line_class (cond (c || d) polygon_class (cond e collection_class unknown_class)))) k
+    go : (a b c d e : Bool) → eqb k 1 ≡ a → eqb k 2 ≡ b → eqb k 3 ≡ c → eqb k 17 ≡ d → KindOf (cond a (Some class.Point) (cond b (Some class.Line) (cond (c || d) (Some class.Polygon) (cond e (Some class.Collection) None)))) k
     go true b c d e p q r t = inl (eqb-true k 1 p)
     go false true c d e p q r t = inr (inl (eqb-true k 2 q))
     go false false true d e p q r t = inr (inr (inl (eqb-true k 3 r)))
@@ -48,7 +50,7 @@ module _ (s : List ℕ) (P : Run Coordinate → Type 0) (one : (h : WkbHeader) (
   AllRead (ok rs end) = Each P rs
   AllRead (refused k) = Unit {0}
 
-  all_needed : (b : Bool) (w : ParsedRuns) → (b ≡ false → AllRead w) → AllRead (cond b (refused 9) w)
+  all_needed : (b : Bool) (w : ParsedRuns) → (b ≡ false → AllRead w) → AllRead (cond b (refused BytesMissing) w)
   unfolding AllRead
   all_needed true w f = tt
   all_needed false w f = f refl
@@ -86,18 +88,18 @@ module _ (s : List ℕ) (P : Run Coordinate → Type 0) (one : (h : WkbHeader) (
     unfolding list_at
     all_list little at = all_needed (ltb (length s) (at + 4)) (times ◌++◌ [] f (u32_at little s at) (at + 4)) (λ e. all_times (u32_at little s at) (at + 4))
 
-  all_content : (c : GeometryClass) (levels : ℕ) (each : (at : ℕ) → AllRead (walk_runs levels s at)) (h : WkbHeader) → KindOf c h.kind → AllRead (content_runs_at c levels s h)
+  all_content : (c : Option GeometryClass) (levels : ℕ) (each : (at : ℕ) → AllRead (walk_runs levels s at)) (h : WkbHeader) → KindOf c h.kind → AllRead (content_runs_at c levels s h)
   unfolding content_runs_at AllRead KindOf
-  all_content point_class levels each h k = all_coordinates h k 1 h.body
-  all_content line_class levels each h k = all_line h k h.body
-  all_content polygon_class levels each h k = subst AllRead (sym (rings_runs_lem h s h.body)) (all_list (line_runs h s) (all_line h k) h.little h.body)
-  all_content collection_class levels each h k = subst AllRead (sym (members_runs_lem levels h.little s h.body)) (all_list (walk_runs levels s) each h.little h.body)
-  all_content unknown_class levels each h k = tt
+  all_content (Some class.Point) levels each h k = all_coordinates h k 1 h.body
+  all_content (Some class.Line) levels each h k = all_line h k h.body
+  all_content (Some class.Polygon) levels each h k = subst AllRead (sym (rings_runs_lem h s h.body)) (all_list (line_runs h s) (all_line h k) h.little h.body)
+  all_content (Some class.Collection) levels each h k = subst AllRead (sym (members_runs_lem levels h.little s h.body)) (all_list (walk_runs levels s) each h.little h.body)
+  all_content None levels each h k = tt
 
   all_from : (levels : ℕ) (each : (at : ℕ) → AllRead (walk_runs levels s at)) (r : ParsedHeader) → AllRead (map_parsed runs_of (geometry_from (walk_of levels s) s r))
   unfolding geometry_from AllRead map_parsed
-  all_from levels each (header.Refused k) = tt
-  all_from levels each (header.Read h) = subst AllRead (sym (content_runs_lem (geometry_class_of h.kind) levels s h)) (all_content (geometry_class_of h.kind) levels each h (class_kind h.kind))
+  all_from levels each (Err k) = tt
+  all_from levels each (Ok h) = subst AllRead (sym (content_runs_lem (geometry_class_of h.kind) levels s h)) (all_content (geometry_class_of h.kind) levels each h (class_kind h.kind))
 
   all_walk : (levels at : ℕ) → AllRead (walk_runs levels s at)
   unfolding walk_of AllRead map_parsed

@@ -8,19 +8,21 @@ use lib.Dec.{ltb, eqb}
 use lib.ListN.{length, get_or}
 use borrow.Author.Tests.{ltb-false}
 use Rattle.fields.specs.Fields.{u32_at}
+use Rattle.std.specs.Prelude.{Option, None, Some, Ok, Err}
+use Rattle.refusals.specs.declared.Reason.TheVariants.{BytesMissing, ByteOrder}
+use Rattle.coords.specs.declared.GeometryClass.{GeometryClass}
+use Rattle.coords.specs.declared.GeometryClass.TheVariants as class
 use Rattle.coords.proofs.Laws.{wide}
 use Rattle.coords.specs.declared.WkbHeader.{WkbHeader}
-use Rattle.coords.specs.declared.ParsedHeader.{ParsedHeader}
-use Rattle.coords.specs.declared.ParsedHeader.TheVariants as header
 use Rattle.fields.specs.TypeCode.{has_flag, srid_flag}
-use Rattle.coords.specs.Walk.{Geometry, geometry, Content, point, line, rings, members, no_members, one_more, Parsed, ok, refused, map_parsed, stride, coordinate_at, coordinates_from, point_at, coordinates_at, line_at, cons_parsed, and_then, times, list_at, rings_at, members_at, GeometryClass, point_class, line_class, polygon_class, collection_class, unknown_class, geometry_class_of, content_of, wkb_header, header_of_type, header_at, geometry_from, walk_of}
+use Rattle.coords.specs.Walk.{ParsedHeader, Geometry, geometry, Content, point, line, rings, members, no_members, one_more, Parsed, ok, refused, map_parsed, stride, coordinate_at, coordinates_from, point_at, coordinates_at, line_at, cons_parsed, and_then, times, list_at, rings_at, members_at, geometry_class_of, content_of, wkb_header, header_of_type, header_at, geometry_from, walk_of}
 
 -- a header has at least five bytes
 unfoldable pub AfterFive : ℕ → ParsedHeader → Type 0
-AfterFive p (header.Read h) = p + 5 ≤ h.body
-AfterFive p (header.Refused k) = Unit
+AfterFive p (Ok h) = p + 5 ≤ h.body
+AfterFive p (Err k) = Unit
 
-after_tests : (b c d e : Bool) (p : ℕ) (g h : WkbHeader) → p + 5 ≤ g.body → p + 5 ≤ h.body → AfterFive p (cond b (header.Refused 9) (cond c (header.Refused 10) (cond d (cond e (header.Refused 9) (header.Read g)) (header.Read h))))
+after_tests : (b c d e : Bool) (p : ℕ) (g h : WkbHeader) → p + 5 ≤ g.body → p + 5 ≤ h.body → AfterFive p (cond b (Err BytesMissing) (cond c (Err ByteOrder) (cond d (cond e (Err BytesMissing) (Ok g)) (Ok h))))
 unfolding AfterFive
 after_tests true c d e p g h i j = tt
 after_tests false true d e p g h i j = tt
@@ -41,7 +43,7 @@ module _ (s : List ℕ) where
   Within p (ok x end) = (p ≤ end) × (end ≤ length s)
   Within p (refused k) = Unit
 
-  needed : {A : Type 0} (x : A) (p k : ℕ) (b : Bool) → ltb (length s) (p + k) ≡ b → Within p (cond b (refused 9) (ok x (p + k)))
+  needed : {A : Type 0} (x : A) (p k : ℕ) (b : Bool) → ltb (length s) (p + k) ≡ b → Within p (cond b (refused BytesMissing) (ok x (p + k)))
   unfolding Within
   needed x p k true e = tt
   needed x p k false e = (omega arith, ltb-false (length s) (p + k) e)
@@ -56,11 +58,11 @@ module _ (s : List ℕ) where
   earlier p q h (ok x end) i = (omega (arith, h, i.0), i.1)
   earlier p q h (refused k) i = tt
 
-  count_after : {A : Type 0} (f : ℕ → ℕ → Parsed A) (each : (c q : ℕ) → q ≤ length s → Within q (f c q)) (c p : ℕ) → Within (p + 4) (cond (ltb (length s) (p + 4)) (refused 9) (f c (p + 4)))
+  count_after : {A : Type 0} (f : ℕ → ℕ → Parsed A) (each : (c q : ℕ) → q ≤ length s → Within q (f c q)) (c p : ℕ) → Within (p + 4) (cond (ltb (length s) (p + 4)) (refused BytesMissing) (f c (p + 4)))
   unfolding Within
   count_after f each c p = go (ltb (length s) (p + 4)) refl
     where
-      go : (b : Bool) → ltb (length s) (p + 4) ≡ b → Within (p + 4) (cond b (refused 9) (f c (p + 4)))
+      go : (b : Bool) → ltb (length s) (p + 4) ≡ b → Within (p + 4) (cond b (refused BytesMissing) (f c (p + 4)))
       go true e = tt
       go false e = each c (p + 4) (ltb-false (length s) (p + 4) e)
 
@@ -100,17 +102,17 @@ module _ (s : List ℕ) where
   unfolding point_at Within
   point_after h p = go (ltb (length s) (p + stride h)) refl
     where
-      go : (b : Bool) → ltb (length s) (p + stride h) ≡ b → Within (p + 4) (cond b (refused 9) (ok (coordinate_at h s p) (p + stride h)))
+      go : (b : Bool) → ltb (length s) (p + stride h) ≡ b → Within (p + 4) (cond b (refused BytesMissing) (ok (coordinate_at h s p) (p + stride h)))
       go true e = tt
       go false e = (omega (arith, wide h.z h.m), ltb-false (length s) (p + stride h) e)
 
-  content_after : (k : GeometryClass) (f : ℕ → Parsed Geometry) (each : (q : ℕ) → Within q (f q)) (h : WkbHeader) → Within (h.body + 4) (content_of k f s h)
+  content_after : (k : Option GeometryClass) (f : ℕ → Parsed Geometry) (each : (q : ℕ) → Within q (f q)) (h : WkbHeader) → Within (h.body + 4) (content_of k f s h)
   unfolding content_of Within
-  content_after point_class f each h = map_within point (h.body + 4) (point_at h s h.body) (point_after h h.body)
-  content_after line_class f each h = map_within line (h.body + 4) (line_at h s h.body) (line_after h h.body)
-  content_after polygon_class f each h = map_within rings (h.body + 4) (rings_at h s h.body) (list_after ◌∷◌ [] (line_at h s) (line_within h) h.little h.body)
-  content_after collection_class f each h = map_within members (h.body + 4) (members_at f h.little s h.body) (list_after one_more no_members f each h.little h.body)
-  content_after unknown_class f each h = tt
+  content_after (Some class.Point) f each h = map_within point (h.body + 4) (point_at h s h.body) (point_after h h.body)
+  content_after (Some class.Line) f each h = map_within line (h.body + 4) (line_at h s h.body) (line_after h h.body)
+  content_after (Some class.Polygon) f each h = map_within rings (h.body + 4) (rings_at h s h.body) (list_after ◌∷◌ [] (line_at h s) (line_within h) h.little h.body)
+  content_after (Some class.Collection) f each h = map_within members (h.body + 4) (members_at f h.little s h.body) (list_after one_more no_members f each h.little h.body)
+  content_after None f each h = tt
 
   -- a geometry is at least its header and a count
   Ends : ℕ → Parsed Geometry → Type 0
@@ -119,8 +121,8 @@ module _ (s : List ℕ) where
 
   geometry_ends : (f : ℕ → Parsed Geometry) (each : (q : ℕ) → Within q (f q)) (p : ℕ) (r : ParsedHeader) → AfterFive p r → Ends p (geometry_from f s r)
   unfolding geometry_from Ends AfterFive Within map_parsed
-  geometry_ends f each p (header.Refused k) i = tt
-  geometry_ends f each p (header.Read h) i = go (content_of (geometry_class_of h.kind) f s h) (content_after (geometry_class_of h.kind) f each h)
+  geometry_ends f each p (Err k) i = tt
+  geometry_ends f each p (Ok h) i = go (content_of (geometry_class_of h.kind) f s h) (content_after (geometry_class_of h.kind) f each h)
     where
       go : (r : Parsed Content) → Within (h.body + 4) r → Ends p (map_parsed (geometry h.kind h.z h.m) r)
       go (ok x end) j = (omega (arith, i, j.0), j.1)

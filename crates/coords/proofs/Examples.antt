@@ -5,6 +5,7 @@ use mathlib.Core.Bool.{true, false}
 use Prim.Native.Nat.{ℕ, zero, suc}
 use lib.ListN.{replicate}
 use Rattle.fields.specs.Fields.{u32_at, u64_at}
+use Rattle.refusals.specs.declared.Reason.TheVariants.{TooManyLevels}
 use Rattle.coords.specs.Walk.{Geometry, geometry, point, line, members, no_members, one_more, ok, refused, map_parsed, z_of, m_of, header_of_type, header_at, stride_of, ordinate_if, m_offset, coordinate_at, coordinates_from, point_at, coordinates_at, line_at, times, list_at, geometry_class_of, content_of, geometry_from, walk_of, all_levels}
 
 -- n collections of one member, big-endian, one in the other, and in the last an empty line
@@ -21,7 +22,7 @@ pub level_32_is_read : walk_of all_levels (nested 32) 0 ≡ ok (nested_tree 32) 
 unfolding nested nested_tree u32_at map_parsed z_of m_of header_of_type header_at stride_of coordinates_from coordinates_at line_at times list_at geometry_class_of content_of geometry_from walk_of
 level_32_is_read = refl
 
-pub level_33_is_refused : walk_of all_levels (nested 33) 0 ≡ refused 12
+pub level_33_is_refused : walk_of all_levels (nested 33) 0 ≡ refused TooManyLevels
 unfolding nested u32_at map_parsed z_of m_of header_of_type header_at times list_at geometry_class_of content_of geometry_from walk_of
 level_33_is_refused = refl
 

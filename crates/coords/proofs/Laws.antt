@@ -8,13 +8,13 @@ use native.Mathlib.Omega.{arith}
 use lib.Dec.{ltb}
 use lib.ListN.{length}
 use borrow.Author.Tests.{ltb-true, ltb-false, lt-ltb, le-ltb}
+use Rattle.std.specs.Prelude.{Ok}
 use Rattle.coords.specs.Walk.{ok, stride_of, m_offset, stride, coordinates_from}
 use Rattle.coords.specs.Parts.{non_empty_run, coordinate_count, other_if, other_count}
 use Rattle.coords.specs.Inner.{coordinates_runs}
 use Rattle.coords.proofs.Runs.{coordinates_runs_lem}
 use Rattle.coords.specs.Counts.{run_counts}
 use Rattle.coords.specs.declared.WkbHeader.{WkbHeader}
-use Rattle.coords.specs.declared.Counts.TheVariants as counts
 
 pub same_short : (len at want : ℕ) → want ≤ len → ltb (len - want) at ≡ ltb len (at + want)
 same_short len at want h = go (ltb (len - want) at) refl
@@ -49,12 +49,12 @@ abbrev pub other_of : ℕ → ℕ → ℕ
 other_of zero kind = 0
 other_of (suc n) kind = other_if kind
 
-counts_ok : (h : WkbHeader) (s : List ℕ) (n at e : ℕ) → run_counts (ok (non_empty_run h.kind (coordinates_from h s n at)) e) ≡ counts.Accepted n (one_if n) (other_of n h.kind) e
+counts_ok : (h : WkbHeader) (s : List ℕ) (n at e : ℕ) → run_counts (ok (non_empty_run h.kind (coordinates_from h s n at)) e) ≡ Ok (record { coords = n; runs = one_if n; others = other_of n h.kind; end = e })
 unfolding run_counts coordinate_count other_count non_empty_run coordinates_from
 counts_ok h s zero at e = refl
 counts_ok h s (suc n) at e = rw (length_coordinates h s n (at + stride h)) (simp add-zero)
 
-pub counts_run : (h : WkbHeader) (s : List ℕ) (n at : ℕ) → ltb (length s) (at + n * stride h) ≡ false → run_counts (coordinates_runs h s n at) ≡ counts.Accepted n (one_if n) (other_of n h.kind) (at + n * stride h)
+pub counts_run : (h : WkbHeader) (s : List ℕ) (n at : ℕ) → ltb (length s) (at + n * stride h) ≡ false → run_counts (coordinates_runs h s n at) ≡ Ok (record { coords = n; runs = one_if n; others = other_of n h.kind; end = at + n * stride h })
 counts_run h s n at e = ap run_counts (coordinates_runs_lem h s n at) ∙ rw e (counts_ok h s n at (at + n * stride h))
 
 pub one : (n : ℕ) → (n ≡ 0 → ⊥) → one_if n ≡ 1
@@ -82,3 +82,5 @@ pub wide_with_m : (z : Bool) → m_offset z + 8 ≤ stride_of z true
 unfolding stride_of m_offset
 wide_with_m true = omega arith
 wide_with_m false = omega arith
+
+pub ruleset runs = (counts_run, one, other, product_fits)

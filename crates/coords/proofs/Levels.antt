@@ -8,10 +8,12 @@ use native.Mathlib.Omega.{arith}
 use lib.Dec.{ltb}
 use lib.ListN.{length}
 use Rattle.fields.specs.Fields.{u32_at}
+use Rattle.std.specs.Prelude.{Option, None, Some, Ok, Err}
+use Rattle.refusals.specs.declared.Reason.TheVariants.{BytesMissing, UnknownKind, TooManyLevels}
+use Rattle.coords.specs.declared.GeometryClass.{GeometryClass}
+use Rattle.coords.specs.declared.GeometryClass.TheVariants as class
 use Rattle.coords.specs.declared.WkbHeader.{WkbHeader}
-use Rattle.coords.specs.declared.ParsedHeader.{ParsedHeader}
-use Rattle.coords.specs.declared.ParsedHeader.TheVariants as header
-use Rattle.coords.specs.Walk.{Geometry, geometry, Content, point, line, rings, members, Members, no_members, one_more, Parsed, ok, refused, map_parsed, cons_parsed, and_then, times, list_at, point_at, line_at, rings_at, members_at, GeometryClass, point_class, line_class, polygon_class, collection_class, unknown_class, geometry_class_of, content_of, header_at, geometry_from, walk_of}
+use Rattle.coords.specs.Walk.{ParsedHeader, Geometry, geometry, Content, point, line, rings, members, Members, no_members, one_more, Parsed, ok, refused, map_parsed, cons_parsed, and_then, times, list_at, point_at, line_at, rings_at, members_at, geometry_class_of, content_of, header_at, geometry_from, walk_of}
 use Rattle.coords.specs.Levels.{deepest_level, content_level, members_level}
 
 -- what r says once `level` of what was read is at most n; w reads the same then
@@ -41,7 +43,7 @@ module _ (f : ℕ → Parsed Geometry) (n : ℕ) (each : (at : ℕ) → AtMost g
       go rest (refused k) h = tt
       go rest (ok g next) h = join g (times one_more no_members f count next) h (rest next)
 
-at_most_needed : {A : Type 0} (level : A → ℕ) (n : ℕ) (b : Bool) (r : Parsed A) → AtMost level n r → AtMost level n (cond b (refused 9) r)
+at_most_needed : {A : Type 0} (level : A → ℕ) (n : ℕ) (b : Bool) (r : Parsed A) → AtMost level n r → AtMost level n (cond b (refused BytesMissing) r)
 unfolding AtMost
 at_most_needed level n true r h = tt
 at_most_needed level n false r h = h
@@ -56,20 +58,20 @@ unfolding AtMost map_parsed
 flat_content n c e (ok a end) = omega (arith, e a)
 flat_content n c e (refused k) = tt
 
-content_at_most : (k : GeometryClass) (f : ℕ → Parsed Geometry) (n : ℕ) (each : (at : ℕ) → AtMost geometry_level n (f at)) (s : List ℕ) (h : WkbHeader) → AtMost content_level n (content_of k f s h)
+content_at_most : (k : Option GeometryClass) (f : ℕ → Parsed Geometry) (n : ℕ) (each : (at : ℕ) → AtMost geometry_level n (f at)) (s : List ℕ) (h : WkbHeader) → AtMost content_level n (content_of k f s h)
 unfolding content_of AtMost content_level list_at
-content_at_most point_class f n each s h = flat_content n point (λ a. refl) (point_at h s h.body)
-content_at_most line_class f n each s h = flat_content n line (λ a. refl) (line_at h s h.body)
-content_at_most polygon_class f n each s h = flat_content n rings (λ a. refl) (rings_at h s h.body)
-content_at_most collection_class f n each s h =
+content_at_most (Some class.Point) f n each s h = flat_content n point (λ a. refl) (point_at h s h.body)
+content_at_most (Some class.Line) f n each s h = flat_content n line (λ a. refl) (line_at h s h.body)
+content_at_most (Some class.Polygon) f n each s h = flat_content n rings (λ a. refl) (rings_at h s h.body)
+content_at_most (Some class.Collection) f n each s h =
     at_most_map members_level content_level n n members (λ a i. i) (members_at f h.little s h.body)
     (at_most_needed members_level n (ltb (length s) (h.body + 4)) (times one_more no_members f (u32_at h.little s h.body) (h.body + 4)) (members_at_most f n each (u32_at h.little s h.body) (h.body + 4)))
-content_at_most unknown_class f n each s h = tt
+content_at_most None f n each s h = tt
 
 geometry_at_most : (f : ℕ → Parsed Geometry) (n : ℕ) (each : (at : ℕ) → AtMost geometry_level n (f at)) (s : List ℕ) (r : ParsedHeader) → AtMost geometry_level (suc n) (geometry_from f s r)
 unfolding geometry_from AtMost geometry_level deepest_level
-geometry_at_most f n each s (header.Refused k) = tt
-geometry_at_most f n each s (header.Read h) =
+geometry_at_most f n each s (Err k) = tt
+geometry_at_most f n each s (Ok h) =
     at_most_map content_level geometry_level n (suc n) (geometry h.kind h.z h.m) (λ a i. omega arith) (content_of (geometry_class_of h.kind) f s h) (content_at_most (geometry_class_of h.kind) f n each s h)
 
 walk_at_most : (levels : ℕ) (s : List ℕ) (at : ℕ) → AtMost geometry_level levels (walk_of levels s at)
@@ -99,7 +101,7 @@ module _ (f f' : ℕ → Parsed Geometry) (n : ℕ) (each : (at : ℕ) → Reads
       go rest (refused k) h = tt
       go rest (ok g next) h = join g next (times one_more no_members f count next) h (rest next)
 
-reads_needed : {A : Type 0} (level : A → ℕ) (n : ℕ) (b : Bool) (r w : Parsed A) → Reads level n r w → Reads level n (cond b (refused 9) r) (cond b (refused 9) w)
+reads_needed : {A : Type 0} (level : A → ℕ) (n : ℕ) (b : Bool) (r w : Parsed A) → Reads level n r w → Reads level n (cond b (refused BytesMissing) r) (cond b (refused BytesMissing) w)
 unfolding Reads
 reads_needed level n true r w h = tt
 reads_needed level n false r w h = h
@@ -114,20 +116,20 @@ unfolding Reads
 reads_same level n (ok a end) = λ l. refl
 reads_same level n (refused k) = tt
 
-content_reads : (k : GeometryClass) (f f' : ℕ → Parsed Geometry) (n : ℕ) (each : (at : ℕ) → Reads geometry_level n (f at) (f' at)) (s : List ℕ) (h : WkbHeader) → Reads content_level n (content_of k f s h) (content_of k f' s h)
+content_reads : (k : Option GeometryClass) (f f' : ℕ → Parsed Geometry) (n : ℕ) (each : (at : ℕ) → Reads geometry_level n (f at) (f' at)) (s : List ℕ) (h : WkbHeader) → Reads content_level n (content_of k f s h) (content_of k f' s h)
 unfolding content_of content_level list_at
-content_reads point_class f f' n each s h = reads_same content_level n (map_parsed point (point_at h s h.body))
-content_reads line_class f f' n each s h = reads_same content_level n (map_parsed line (line_at h s h.body))
-content_reads polygon_class f f' n each s h = reads_same content_level n (map_parsed rings (rings_at h s h.body))
-content_reads collection_class f f' n each s h =
+content_reads (Some class.Point) f f' n each s h = reads_same content_level n (map_parsed point (point_at h s h.body))
+content_reads (Some class.Line) f f' n each s h = reads_same content_level n (map_parsed line (line_at h s h.body))
+content_reads (Some class.Polygon) f f' n each s h = reads_same content_level n (map_parsed rings (rings_at h s h.body))
+content_reads (Some class.Collection) f f' n each s h =
     reads_map members_level content_level n n members (λ a i. i) (members_at f h.little s h.body) (members_at f' h.little s h.body)
     (reads_needed members_level n (ltb (length s) (h.body + 4)) (times one_more no_members f (u32_at h.little s h.body) (h.body + 4)) (times one_more no_members f' (u32_at h.little s h.body) (h.body + 4)) (members_read f f' n each (u32_at h.little s h.body) (h.body + 4)))
-content_reads unknown_class f f' n each s h = reads_same content_level n (refused 11)
+content_reads None f f' n each s h = reads_same content_level n (refused UnknownKind)
 
 geometry_reads : (f f' : ℕ → Parsed Geometry) (n : ℕ) (each : (at : ℕ) → Reads geometry_level n (f at) (f' at)) (s : List ℕ) (r : ParsedHeader) → Reads geometry_level (suc n) (geometry_from f s r) (geometry_from f' s r)
 unfolding geometry_from geometry_level deepest_level Reads
-geometry_reads f f' n each s (header.Refused k) = tt
-geometry_reads f f' n each s (header.Read h) =
+geometry_reads f f' n each s (Err k) = tt
+geometry_reads f f' n each s (Ok h) =
     reads_map content_level geometry_level n (suc n) (geometry h.kind h.z h.m) (λ a i. omega arith) (content_of (geometry_class_of h.kind) f s h) (content_of (geometry_class_of h.kind) f' s h) (content_reads (geometry_class_of h.kind) f f' n each s h)
 
 no_level : (r w : Parsed Geometry) → Reads geometry_level 0 r w
@@ -138,7 +140,7 @@ no_level (refused k) w = tt
 walk_reads : (levels n : ℕ) (s : List ℕ) (at : ℕ) → Reads geometry_level n (walk_of levels s at) (walk_of n s at)
 unfolding walk_of Reads
 walk_reads zero n s at = tt
-walk_reads (suc levels) zero s at = no_level (walk_of (suc levels) s at) (refused 12)
+walk_reads (suc levels) zero s at = no_level (walk_of (suc levels) s at) (refused TooManyLevels)
 walk_reads (suc levels) (suc n) s at = geometry_reads (walk_of levels s) (walk_of n s) n (walk_reads levels n s) s (header_at s at)
 
 -- End theorem: what is read is read with any levels above its deepest.

@@ -9,12 +9,14 @@ use lib.Dec.{ltb, eqb}
 use lib.ListN.{length, get_or}
 use borrow.Author.Tests.{le-ltb}
 use Rattle.fields.specs.Fields.{u32_at, u64_at}
+use Rattle.std.specs.Prelude.{Option, None, Some, Ok, Err}
+use Rattle.refusals.specs.declared.Reason.TheVariants.{BytesMissing, ByteOrder}
+use Rattle.coords.specs.declared.GeometryClass.{GeometryClass}
+use Rattle.coords.specs.declared.GeometryClass.TheVariants as class
 use Rattle.coords.proofs.Laws.{wide}
 use Rattle.coords.specs.declared.WkbHeader.{WkbHeader}
-use Rattle.coords.specs.declared.ParsedHeader.{ParsedHeader}
-use Rattle.coords.specs.declared.ParsedHeader.TheVariants as header
 use Rattle.fields.specs.TypeCode.{has_flag, srid_flag}
-use Rattle.coords.specs.Walk.{Coordinate, Geometry, geometry, Content, point, line, rings, members, no_members, one_more, Parsed, ok, refused, map_parsed, stride_of, stride, ordinate_if, m_offset, coordinate_at, coordinates_from, point_at, coordinates_at, line_at, cons_parsed, and_then, times, list_at, rings_at, members_at, GeometryClass, point_class, line_class, polygon_class, collection_class, unknown_class, geometry_class_of, content_of, wkb_header, header_of_type, header_at, geometry_from, walk_of}
+use Rattle.coords.specs.Walk.{ParsedHeader, Coordinate, Geometry, geometry, Content, point, line, rings, members, no_members, one_more, Parsed, ok, refused, map_parsed, stride_of, stride, ordinate_if, m_offset, coordinate_at, coordinates_from, point_at, coordinates_at, line_at, cons_parsed, and_then, times, list_at, rings_at, members_at, geometry_class_of, content_of, wkb_header, header_of_type, header_at, geometry_from, walk_of}
 
 -- n bytes at a of s stand at a' of s' too
 module _ (s s' : List ℕ) (a a' n : ℕ) (same : (i : ℕ) → i < n → get_or s (a + i) 0 ≡ get_or s' (a' + i) 0) (room : a' + n ≤ length s') where
@@ -91,11 +93,11 @@ module _ (s s' : List ℕ) (a a' n : ℕ) (same : (i : ℕ) → i < n → get_or
   Carries p (ok x end) w = (p ≤ end) × (end ≤ a + n → w ≡ ok x (there end))
   Carries p (refused k) w = Unit
 
-  needed : {A : Type 0} (x x' : A) (p k : ℕ) (b : Bool) → a ≤ p → (p + k ≤ a + n → x ≡ x') → Carries p (cond b (refused 9) (ok x (p + k))) (cond (ltb (length s') (there p + k)) (refused 9) (ok x' (there p + k)))
+  needed : {A : Type 0} (x x' : A) (p k : ℕ) (b : Bool) → a ≤ p → (p + k ≤ a + n → x ≡ x') → Carries p (cond b (refused BytesMissing) (ok x (p + k))) (cond (ltb (length s') (there p + k)) (refused BytesMissing) (ok x' (there p + k)))
   unfolding Carries
   needed x x' p k true h e = tt
   needed x x' p k false h e =
-      (omega arith, λ l. ap (λ (b : Bool). cond b (refused 9) (ok x' (there p + k))) (fits p k h l) ∙ (ap (λ y. ok y (there p + k)) (sym (e l)) ∙ ap (ok x) (sym (on p k h))))
+      (omega arith, λ l. ap (λ (b : Bool). cond b (refused BytesMissing) (ok x' (there p + k))) (fits p k h l) ∙ (ap (λ y. ok y (there p + k)) (sym (e l)) ∙ ap (ok x) (sym (on p k h))))
 
   point_carries : (h : WkbHeader) (p : ℕ) → a ≤ p → Carries p (point_at h s p) (point_at (moved h) s' (there p))
   unfolding point_at
@@ -106,18 +108,18 @@ module _ (s s' : List ℕ) (a a' n : ℕ) (same : (i : ℕ) → i < n → get_or
   coordinates_carry h c p g = needed (coordinates_from h s c p) (coordinates_from (moved h) s' c (there p)) p (c * stride h) (ltb (length s) (p + c * stride h)) g (coordinates_move h c p g)
 
   -- a count, and what is read by it
-  count_carries : {A : Type 0} (little : Bool) (f f' : ℕ → ℕ → Parsed A) (each : (c q : ℕ) → a ≤ q → Carries q (f c q) (f' c (there q))) (p : ℕ) → a ≤ p → Carries p (cond (ltb (length s) (p + 4)) (refused 9) (f (u32_at little s p) (p + 4))) (cond (ltb (length s') (there p + 4)) (refused 9) (f' (u32_at little s' (there p)) (there p + 4)))
+  count_carries : {A : Type 0} (little : Bool) (f f' : ℕ → ℕ → Parsed A) (each : (c q : ℕ) → a ≤ q → Carries q (f c q) (f' c (there q))) (p : ℕ) → a ≤ p → Carries p (cond (ltb (length s) (p + 4)) (refused BytesMissing) (f (u32_at little s p) (p + 4))) (cond (ltb (length s') (there p + 4)) (refused BytesMissing) (f' (u32_at little s' (there p)) (there p + 4)))
   unfolding Carries
   count_carries {A} little f f' each p h = go (ltb (length s) (p + 4)) (f (u32_at little s p) (p + 4)) (each (u32_at little s p) (p + 4) (omega arith))
     where
-      go : (b : Bool) (r : Parsed A) → Carries (p + 4) r (f' (u32_at little s p) (there (p + 4))) → Carries p (cond b (refused 9) r) (cond (ltb (length s') (there p + 4)) (refused 9) (f' (u32_at little s' (there p)) (there p + 4)))
+      go : (b : Bool) (r : Parsed A) → Carries (p + 4) r (f' (u32_at little s p) (there (p + 4))) → Carries p (cond b (refused BytesMissing) r) (cond (ltb (length s') (there p + 4)) (refused BytesMissing) (f' (u32_at little s' (there p)) (there p + 4)))
       go true r i = tt
       go false (refused k) i = tt
       go false (ok x end) i = (
         omega (arith, i.0),
         λ l.
             let in-it : p + 4 ≤ a + n = omega (arith, i.0, l) in
-            ap (λ (b : Bool). cond b (refused 9) (f' (u32_at little s' (there p)) (there p + 4))) (fits p 4 h in-it)
+            ap (λ (b : Bool). cond b (refused BytesMissing) (f' (u32_at little s' (there p)) (there p + 4))) (fits p 4 h in-it)
             ∙ (ap (λ (c : ℕ). f' c (there p + 4)) (sym (u32_moves little p h in-it))
             ∙ (ap (f' (u32_at little s p)) (sym (on p 4 h)) ∙ i.1 l)),
       )
@@ -149,22 +151,22 @@ module _ (s s' : List ℕ) (a a' n : ℕ) (same : (i : ℕ) → i < n → get_or
   map_carries c p (ok x end) w i = (i.0, λ l. ap (map_parsed c) (i.1 l))
   map_carries c p (refused k) w i = tt
 
-  content_carries : (k : GeometryClass) (f f' : ℕ → Parsed Geometry) (each : (q : ℕ) → a ≤ q → Carries q (f q) (f' (there q))) (h : WkbHeader) → a ≤ h.body → Carries h.body (content_of k f s h) (content_of k f' s' (moved h))
+  content_carries : (k : Option GeometryClass) (f f' : ℕ → Parsed Geometry) (each : (q : ℕ) → a ≤ q → Carries q (f q) (f' (there q))) (h : WkbHeader) → a ≤ h.body → Carries h.body (content_of k f s h) (content_of k f' s' (moved h))
   unfolding content_of Carries
-  content_carries point_class f f' each h g = map_carries point h.body (point_at h s h.body) (point_at (moved h) s' (there h.body)) (point_carries h h.body g)
-  content_carries line_class f f' each h g = map_carries line h.body (line_at h s h.body) (line_at (moved h) s' (there h.body)) (line_carries h h.body g)
-  content_carries polygon_class f f' each h g =
+  content_carries (Some class.Point) f f' each h g = map_carries point h.body (point_at h s h.body) (point_at (moved h) s' (there h.body)) (point_carries h h.body g)
+  content_carries (Some class.Line) f f' each h g = map_carries line h.body (line_at h s h.body) (line_at (moved h) s' (there h.body)) (line_carries h h.body g)
+  content_carries (Some class.Polygon) f f' each h g =
       map_carries rings h.body (rings_at h s h.body) (rings_at (moved h) s' (there h.body)) (list_carries ◌∷◌ [] (line_at h s) (line_at (moved h) s') (line_carries h) h.little h.body g)
-  content_carries collection_class f f' each h g =
+  content_carries (Some class.Collection) f f' each h g =
       map_carries members h.body (members_at f h.little s h.body) (members_at f' h.little s' (there h.body)) (list_carries one_more no_members f f' each h.little h.body g)
-  content_carries unknown_class f f' each h g = tt
+  content_carries None f f' each h g = tt
 
   HeaderCarries : ℕ → ParsedHeader → ParsedHeader → Type 0
-  HeaderCarries p (header.Read h) w = (p ≤ h.body) × (h.body ≤ a + n → w ≡ header.Read (moved h))
-  HeaderCarries p (header.Refused k) w = Unit
+  HeaderCarries p (Ok h) w = (p ≤ h.body) × (h.body ≤ a + n → w ≡ Ok (moved h))
+  HeaderCarries p (Err k) w = Unit
 
   -- a header's first five bytes lie in the n bytes
-  header_there : (p : ℕ) → a ≤ p → p + 5 ≤ a + n → header_at s' (there p) ≡ cond (ltb 1 (get_or s p 0)) (header.Refused 10) (header_of_type s' (eqb (get_or s p 0) 1) (u32_at (eqb (get_or s p 0) 1) s (p + 1)) (there p))
+  header_there : (p : ℕ) → a ≤ p → p + 5 ≤ a + n → header_at s' (there p) ≡ cond (ltb 1 (get_or s p 0)) (Err ByteOrder) (header_of_type s' (eqb (get_or s p 0) 1) (u32_at (eqb (get_or s p 0) 1) s (p + 1)) (there p))
   unfolding header_at
   header_there p h l = rw (fits p 5 h l, ← byte p h (omega arith), ← u32_on (eqb (get_or s p 0) 1) p 1 h (omega arith))
 
@@ -178,7 +180,7 @@ module _ (s s' : List ℕ) (a a' n : ℕ) (same : (i : ℕ) → i < n → get_or
       code : ℕ
       code = u32_at (eqb (get_or s p 0) 1) s (p + 1)
 
-      go : (b c d e : Bool) → ltb 1 (get_or s p 0) ≡ c → has_flag srid_flag (u32_at (eqb (get_or s p 0) 1) s (p + 1)) ≡ d → HeaderCarries p (cond b (header.Refused 9) (cond c (header.Refused 10) (cond d (cond e (header.Refused 9) (header.Read (wkb_header (eqb (get_or s p 0) 1) (u32_at (eqb (get_or s p 0) 1) s (p + 1)) (p + 9)))) (header.Read (wkb_header (eqb (get_or s p 0) 1) (u32_at (eqb (get_or s p 0) 1) s (p + 1)) (p + 5)))))) (header_at s' (there p))
+      go : (b c d e : Bool) → ltb 1 (get_or s p 0) ≡ c → has_flag srid_flag (u32_at (eqb (get_or s p 0) 1) s (p + 1)) ≡ d → HeaderCarries p (cond b (Err BytesMissing) (cond c (Err ByteOrder) (cond d (cond e (Err BytesMissing) (Ok (wkb_header (eqb (get_or s p 0) 1) (u32_at (eqb (get_or s p 0) 1) s (p + 1)) (p + 9)))) (Ok (wkb_header (eqb (get_or s p 0) 1) (u32_at (eqb (get_or s p 0) 1) s (p + 1)) (p + 5)))))) (header_at s' (there p))
       go true c d e p2 p3 = tt
       go false true d e p2 p3 = tt
       go false false true true p2 p3 = tt
@@ -187,8 +189,8 @@ module _ (s s' : List ℕ) (a a' n : ℕ) (same : (i : ℕ) → i < n → get_or
 
   geometry_carries : (f f' : ℕ → Parsed Geometry) (each : (q : ℕ) → a ≤ q → Carries q (f q) (f' (there q))) (p : ℕ) (r w : ParsedHeader) → a ≤ p → HeaderCarries p r w → Carries p (geometry_from f s r) (geometry_from f' s' w)
   unfolding geometry_from Carries HeaderCarries map_parsed
-  geometry_carries f f' each p (header.Refused k) w h i = tt
-  geometry_carries f f' each p (header.Read g) w h i = go (content_of (geometry_class_of g.kind) f s g) (content_carries (geometry_class_of g.kind) f f' each g (omega (arith, i.0, h)))
+  geometry_carries f f' each p (Err k) w h i = tt
+  geometry_carries f f' each p (Ok g) w h i = go (content_of (geometry_class_of g.kind) f s g) (content_carries (geometry_class_of g.kind) f f' each g (omega (arith, i.0, h)))
     where
       go : (r : Parsed Content) → Carries g.body r (content_of (geometry_class_of g.kind) f' s' (moved g)) → Carries p (map_parsed (geometry g.kind g.z g.m) r) (geometry_from f' s' w)
       go (refused k) j = tt

@@ -7,11 +7,11 @@ use native.Mathlib.Omega.{arith}
 use lib.ListN.{length, get_or}
 use borrow.Author.Tests.{le-ltb}
 use Rattle.fields.specs.Fields.{u32_at}
-use Rattle.coords.specs.declared.ParsedHeader.TheVariants as header
+use Rattle.std.specs.Prelude.{Ok}
 use Rattle.coords.specs.Walk.{Geometry, geometry, members, no_members, one_more, ok, map_parsed, z_of, m_of, header_of_type, header_at, times, list_at, geometry_class_of, content_of, geometry_from, walk_of}
 
 module _ (s : List ℕ) (p : ℕ) (order : get_or s p 0 ≡ 1) (type : u32_at true s (p + 1) ≡ 1007) where
-  pair_header : p + 5 ≤ length s → header_at s p ≡ header.Read (record { little = true; z = true; m = false; kind = 7; body = p + 5 })
+  pair_header : p + 5 ≤ length s → header_at s p ≡ Ok (record { little = true; z = true; m = false; kind = 7; body = p + 5 })
   unfolding header_at header_of_type z_of m_of
   pair_header l = rw (le-ltb (length s) (p + 5) l, order, type)
 

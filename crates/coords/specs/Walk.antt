@@ -1,10 +1,12 @@
--- The walk of a WKB geometry (document 01, Walk): the tree that the bytes at a position hold and the position after it, or the number of a refusal. Definitions only.
-use Rattle.std.specs.Prelude.{ℕ, zero, suc, ◌+◌, ◌*◌, List, [], ◌∷◌, Bool, true, false, cond, ◌&&◌, ◌||◌, length, get_or, ltb, leb, eqb}
+-- The walk of a WKB geometry (document 01, Walk): the tree that the bytes at a position hold and the position after it, or the reason of a refusal. Definitions only.
+use Rattle.std.specs.Prelude.{ℕ, zero, suc, ◌+◌, ◌*◌, List, [], ◌∷◌, Bool, true, false, cond, ◌&&◌, ◌||◌, length, get_or, ltb, leb, eqb, Option, None, Some, Result, Ok, Err}
 use Rattle.fields.specs.Fields.{u32_at, u64_at}
 use Rattle.fields.specs.TypeCode.{thousands_of, kind_of, has_flag, z_flag, m_flag, srid_flag}
+use Rattle.refusals.specs.declared.Reason.{Reason}
+use Rattle.refusals.specs.declared.Reason.TheVariants.{BytesMissing, ByteOrder, UnknownKind, TooManyLevels}
 use Rattle.coords.specs.declared.WkbHeader.{WkbHeader}
-use Rattle.coords.specs.declared.ParsedHeader.{ParsedHeader}
-use Rattle.coords.specs.declared.ParsedHeader.TheVariants as header
+use Rattle.coords.specs.declared.GeometryClass.{GeometryClass}
+use Rattle.coords.specs.declared.GeometryClass.TheVariants as class
 
 -- ---- the tree
 
@@ -32,10 +34,10 @@ mutual
     no_members : Members
     one_more : Geometry → Members → Members
 
--- what was read and the position after it, or the refusal's number
+-- what was read and the position after it, or the refusal's reason
 pub data Parsed (A : Type 0) : Type 0 where
   ok : A → ℕ → Parsed A
-  refused : ℕ → Parsed A
+  refused : Reason → Parsed A
 
 -- f of what was read
 unfoldable pub map_parsed : {A B : Type 0} → (A → B) → Parsed A → Parsed B
@@ -44,9 +46,12 @@ map_parsed f (refused k) = refused k
 
 -- refusal 9 where the bytes end before a position
 abbrev pub need_bytes : {A : Type 0} → List ℕ → ℕ → Parsed A → Parsed A
-need_bytes s end r = cond (ltb (length s) end) (refused 9) r
+need_bytes s end r = cond (ltb (length s) end) (refused BytesMissing) r
 
 -- ---- the header of a geometry
+
+abbrev pub ParsedHeader : Type 0
+ParsedHeader = Result WkbHeader Reason
 
 -- v / 1000 of 1, 2, 3 means XYZ, XYM, XYZM; otherwise flag 80000000 gives Z
 unfoldable pub z_of : ℕ → Bool
@@ -72,14 +77,14 @@ wkb_header little code body = record { little = little; z = z_of code; m = m_of 
 unfoldable pub header_of_type : List ℕ → Bool → ℕ → ℕ → ParsedHeader
 header_of_type s little code at =
     cond (has_flag srid_flag code)
-    (cond (ltb (length s) (at + 9)) (header.Refused 9) (header.Read (wkb_header little code (at + 9))))
-    (header.Read (wkb_header little code (at + 5)))
+    (cond (ltb (length s) (at + 9)) (Err BytesMissing) (Ok (wkb_header little code (at + 9))))
+    (Ok (wkb_header little code (at + 5)))
 
 -- byte order (0 big, 1 little), type and SRID at a position: refusals 9 and 10
 unfoldable pub header_at : List ℕ → ℕ → ParsedHeader
 header_at s at =
-    cond (ltb (length s) (at + 5)) (header.Refused 9)
-    (cond (ltb 1 (get_or s at 0)) (header.Refused 10)
+    cond (ltb (length s) (at + 5)) (Err BytesMissing)
+    (cond (ltb 1 (get_or s at 0)) (Err ByteOrder)
     (header_of_type s (eqb (get_or s at 0) 1) (u32_at (eqb (get_or s at 0) 1) s (at + 1)) at))
 
 -- ---- coordinates
@@ -162,30 +167,26 @@ members_at f little s at = list_at one_more no_members f little s at
 
 -- ---- geometries
 
--- what a geometry of some kind holds
-pub data GeometryClass : Type 0 where
-  point_class line_class polygon_class collection_class unknown_class : GeometryClass
-
--- 1 point, 2 line, 3 polygon, 17 triangle, 4 to 7, 15 and 16 collections, nothing else
-unfoldable pub geometry_class_of : ℕ → GeometryClass
+-- what a geometry of some kind holds: 1 point, 2 line, 3 polygon, 17 triangle, 4 to 7, 15 and 16 collections, nothing else
+unfoldable pub geometry_class_of : ℕ → Option GeometryClass
 geometry_class_of k =
-    cond (eqb k 1) point_class
-    (cond (eqb k 2) line_class
-    (cond (eqb k 3 || eqb k 17) polygon_class
-    (cond ((leb 4 k && leb k 7) || (eqb k 15 || eqb k 16)) collection_class unknown_class)))
+    cond (eqb k 1) (Some class.Point)
+    (cond (eqb k 2) (Some class.Line)
+    (cond (eqb k 3 || eqb k 17) (Some class.Polygon)
+    (cond ((leb 4 k && leb k 7) || (eqb k 15 || eqb k 16)) (Some class.Collection) None)))
 
 -- what follows a header: refusal 11 for an unknown kind; f reads a member
-unfoldable pub content_of : GeometryClass → (ℕ → Parsed Geometry) → List ℕ → WkbHeader → Parsed Content
-content_of point_class f s h = map_parsed point (point_at h s h.body)
-content_of line_class f s h = map_parsed line (line_at h s h.body)
-content_of polygon_class f s h = map_parsed rings (rings_at h s h.body)
-content_of collection_class f s h = map_parsed members (members_at f h.little s h.body)
-content_of unknown_class f s h = refused 11
+unfoldable pub content_of : Option GeometryClass → (ℕ → Parsed Geometry) → List ℕ → WkbHeader → Parsed Content
+content_of (Some class.Point) f s h = map_parsed point (point_at h s h.body)
+content_of (Some class.Line) f s h = map_parsed line (line_at h s h.body)
+content_of (Some class.Polygon) f s h = map_parsed rings (rings_at h s h.body)
+content_of (Some class.Collection) f s h = map_parsed members (members_at f h.little s h.body)
+content_of None f s h = refused UnknownKind
 
 -- a geometry by its header; f reads a member
 unfoldable pub geometry_from : (ℕ → Parsed Geometry) → List ℕ → ParsedHeader → Parsed Geometry
-geometry_from f s (header.Refused k) = refused k
-geometry_from f s (header.Read h) = map_parsed (geometry h.kind h.z h.m) (content_of (geometry_class_of h.kind) f s h)
+geometry_from f s (Err k) = refused k
+geometry_from f s (Ok h) = map_parsed (geometry h.kind h.z h.m) (content_of (geometry_class_of h.kind) f s h)
 
 -- the levels that are read: 0, the top, to 32
 abbrev pub all_levels : ℕ
@@ -193,5 +194,5 @@ all_levels = 33
 
 -- the geometry at a position, with so many levels left to read: refusal 12 where none is
 unfoldable pub walk_of : ℕ → List ℕ → ℕ → Parsed Geometry
-walk_of zero s at = refused 12
+walk_of zero s at = refused TooManyLevels
 walk_of (suc levels) s at = geometry_from (walk_of levels s) s (header_at s at)

@@ -2,19 +2,21 @@
 use mathlib.Core.Path.{◌≡◌, refl, sym, ap, ◌∙◌, subst}
 use mathlib.Core.Bool.{false}
 use mathlib.Core.List.{List, [], ◌∷◌, ◌++◌, foldl, cons-ne-nil}
-use mathlib.Core.Option.{Option}
+use Rattle.std.specs.declared.option.Option.{Option}
 use lib.Ieee.{lt, eq}
 use Rattle.primitives.specs.declared.Point.{Point}
 use Rattle.primitives.specs.declared.Witness.{Witness}
+use Rattle.measures.specs.declared.Triangle.{Triangle}
 use Rattle.primitives.specs.Witnesses.{witness_of, smaller_of}
 use Rattle.extremes.specs.Sweeps.{shorter, taking}
 use Rattle.extremes.proofs.Lists.{Each, each_weaken, each_append}
-use Rattle.extremes.proofs.Taking.{BestFits}
+use Rattle.extremes.specs.BestSoFar.{BestFits}
 use Rattle.measures.specs.Measures.{closer_of, segment_edges, infinitely_far}
 use Rattle.measures.specs.InnerOffers.{offered_all}
 use Rattle.measures.proofs.NotBelowZero.{Distant}
 use Rattle.measures.proofs.Smallest.{Fitting, smallest_offered, smallest_first}
-use Rattle.items.specs.Items.{Item, point, segment, triangle}
+use Rattle.items.specs.declared.Item.{Item}
+use Rattle.items.specs.declared.Item.TheVariants.{Point as point, Segment as segment, Triangle as triangle}
 use Rattle.items.specs.Candidates.{candidates_of}
 use Rattle.items.proofs.NotBelowZero.{candidates_not_below}
 use Rattle.crossings.specs.Crossings.{crossing, triangle_crossings, triangle_triangle_from, triangle_triangle_by_rule2, candidates_by_rule2}
@@ -48,25 +50,25 @@ row_kept : (w : Witness) (vs : List Witness) → Touching w → foldl closer_of 
 row_kept w [] t = refl
 row_kept w (v ∷ vs) t = rw (zero_kept w v t) (row_kept w vs t)
 
-edges_kept : (w : Witness) (p q a b c : Point) → Touching w → segment_edges w p q a b c ≡ w
+edges_kept : (w : Witness) (p q : Point) (u : Triangle) → Touching w → segment_edges w p q u ≡ w
 unfolding segment_edges
-edges_kept w p q a b c t = rw (zero_kept w _ t, zero_kept w _ t, zero_kept w _ t)
+edges_kept w p q u t = rw (zero_kept w _ t, zero_kept w _ t, zero_kept w _ t)
 
 -- from +infinity the first crossing is taken
 infinity_replaced : (a d : Point) (w : Witness) → Touching w → closer_of (infinitely_far a d) w ≡ w
 unfolding closer_of infinitely_far witness_of smaller_of eq
 infinity_replaced a d w t = rw (zero_below_infinity w.d t.zero)
 
-from_zero : (w : Witness) (a b c d e f : Point) → Touching w → triangle_triangle_from w a b c d e f ≡ w
+from_zero : (w : Witness) (t u : Triangle) → Touching w → triangle_triangle_from w t u ≡ w
 unfolding triangle_triangle_from
-from_zero w a b c d e f t = rw (edges_kept w a b d e f t, edges_kept w b c d e f t, edges_kept w c a d e f t, t.zero)
+from_zero w t u k = rw (edges_kept w t.a t.b u k, edges_kept w t.b t.c u k, edges_kept w t.c t.a u k, k.zero)
 
 -- the first of the crossings of two triangles is what rule 2 measures them by
-pub triangles_by_first : (a b c d e f : Point) (w : Witness) (ws : List Witness) → triangle_crossings a b c d e f ≡ w ∷ ws → triangle_triangle_by_rule2 a b c d e f ≡ w
+pub triangles_by_first : (t u : Triangle) (w : Witness) (ws : List Witness) → triangle_crossings t u ≡ w ∷ ws → triangle_triangle_by_rule2 t u ≡ w
 unfolding triangle_triangle_by_rule2
-triangles_by_first a b c d e f w ws h =
-    let t : Each Touching (w ∷ ws) = subst (Each Touching) h (triangles_touch a b c d e f) in
-    rw (h, infinity_replaced a d w t.0, row_kept w ws t.0) (from_zero w a b c d e f t.0)
+triangles_by_first t u w ws h =
+    let k : Each Touching (w ∷ ws) = subst (Each Touching) h (triangles_touch t u) in
+    rw (h, infinity_replaced t.a u.a w k.0, row_kept w ws k.0) (from_zero w t u k.0)
 
 -- ---- two items
 
@@ -76,7 +78,7 @@ unfolding crossings_of candidates_by_rule2
 crossing_decides best (point p) i w ws f h = absurd (cons-ne-nil w ws (sym h))
 crossing_decides best (segment s e) (point q) w ws f h = absurd (cons-ne-nil w ws (sym h))
 crossing_decides best (segment s e) (segment u v) w ws f h = absurd (cons-ne-nil w ws (sym h))
-crossing_decides best (segment s e) (triangle a b c) w ws f h = first_decides best w (crossing s e a b c) ws (candidates_of (segment s e) (triangle a b c)) f (crossing_touches s e a b c) (candidates_not_below (segment s e) (triangle a b c)) h
-crossing_decides best (triangle a b c) (point q) w ws f h = absurd (cons-ne-nil w ws (sym h))
-crossing_decides best (triangle a b c) (segment s e) w ws f h = first_decides best w (crossing s e a b c) ws (candidates_of (triangle a b c) (segment s e)) f (crossing_touches s e a b c) (candidates_not_below (triangle a b c) (segment s e)) h
-crossing_decides best (triangle a b c) (triangle d e g) w ws f h = ap (taking shorter best) (triangles_by_first a b c d e g w ws h)
+crossing_decides best (segment s e) (triangle t) w ws f h = first_decides best w (crossing s e t) ws (candidates_of (segment s e) (triangle t)) f (crossing_touches s e t) (candidates_not_below (segment s e) (triangle t)) h
+crossing_decides best (triangle t) (point q) w ws f h = absurd (cons-ne-nil w ws (sym h))
+crossing_decides best (triangle t) (segment s e) w ws f h = first_decides best w (crossing s e t) ws (candidates_of (triangle t) (segment s e)) f (crossing_touches s e t) (candidates_not_below (triangle t) (segment s e)) h
+crossing_decides best (triangle t) (triangle u) w ws f h = ap (taking shorter best) (triangles_by_first t u w ws h)

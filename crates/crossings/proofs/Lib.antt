@@ -1,5 +1,4 @@
 -- The laws of pair rule 2.
-pub mod Sides
 pub mod Firsts
 pub mod Touching
 pub mod Decides

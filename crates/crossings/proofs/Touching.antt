@@ -7,6 +7,7 @@ use lib.Ieee.{Float, nan, inf, fin, lt, eq, is_nan}
 use Rattle.ieee754.specs.MinMax.{positive_zero}
 use Rattle.primitives.specs.declared.Point.{Point}
 use Rattle.primitives.specs.declared.Witness.{Witness}
+use Rattle.measures.specs.declared.Triangle.{Triangle}
 use Rattle.primitives.specs.Vectors.{dot_of}
 use Rattle.primitives.specs.Witnesses.{between_of}
 use Rattle.extremes.proofs.Lists.{Each, each_append}
@@ -35,16 +36,16 @@ zero_below_infinity nan h = absurd (false≢true (unfold eq in h))
 zero_below_infinity (inf s) h = absurd (false≢true (unfold eq in h))
 zero_below_infinity (fin s m k) h = unfold lt in refl
 
-module _ (s e a b c : Point) where
+module _ (s e : Point) (t : Triangle) where
   abbrev n : Point
-  n = normal_of a b c
+  n = normal_of t
 
   abbrev x : Point
-  x = crossing_point s e a n
+  x = crossing_point s e t.a n
 
-  pub crossing_touches : Each Touching (crossing s e a b c)
+  pub crossing_touches : Each Touching (crossing s e t)
   unfolding crossing crosses counts_as_crossing
-  crossing_touches = go (opposite_sides (side_of s a n) (side_of e a n)) (lt positive_zero (dot_of n n)) (inside_triangle a b c x n) (eq (between_of x x).d positive_zero) refl
+  crossing_touches = go (opposite_sides (side_of s t.a n) (side_of e t.a n)) (lt positive_zero (dot_of n n)) (inside_triangle t x n) (eq (between_of x x).d positive_zero) refl
     where
       go : (p q r z : Bool) → eq (between_of x x).d positive_zero ≡ z → Each Touching (cond (p && (q && (r && z))) (between_of x x ∷ []) [])
       go true true true true h = (record { zero = h; distant = between x x }, tt)
@@ -53,13 +54,12 @@ module _ (s e a b c : Point) where
       go true false r z h = tt
       go false q r z h = tt
 
-module _ (a b c d e f : Point) where
-  pub edges_touch : Each Touching (edge_crossings a b c d e f)
-  unfolding edge_crossings
-  edges_touch =
-      each_append Touching (crossing a b d e f) _ (crossing_touches a b d e f)
-      (each_append Touching (crossing b c d e f) _ (crossing_touches b c d e f) (crossing_touches c a d e f))
+pub edges_touch : (t u : Triangle) → Each Touching (edge_crossings t u)
+unfolding edge_crossings
+edges_touch t u =
+    each_append Touching (crossing t.a t.b u) _ (crossing_touches t.a t.b u)
+    (each_append Touching (crossing t.b t.c u) _ (crossing_touches t.b t.c u) (crossing_touches t.c t.a u))
 
-pub triangles_touch : (a b c d e f : Point) → Each Touching (triangle_crossings a b c d e f)
+pub triangles_touch : (t u : Triangle) → Each Touching (triangle_crossings t u)
 unfolding triangle_crossings
-triangles_touch a b c d e f = each_append Touching (edge_crossings a b c d e f) _ (edges_touch a b c d e f) (edges_touch d e f a b c)
+triangles_touch t u = each_append Touching (edge_crossings t u) _ (edges_touch t u) (edges_touch u t)

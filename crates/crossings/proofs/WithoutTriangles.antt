@@ -1,13 +1,15 @@
 -- Where no item is a triangle, rule 2's sweep is rule 1's. Assumes nothing.
 use mathlib.Core.Path.{◌≡◌, refl, ap}
 use mathlib.Core.List.{List, foldl}
-use mathlib.Core.Option.{Option, none, some}
+use Rattle.std.specs.declared.option.Option.{Option}
+use Rattle.std.specs.Prelude.{None, Some}
 use Rattle.primitives.specs.declared.Witness.{Witness}
 use Rattle.primitives.specs.declared.Aabb.{Aabb}
 use Rattle.extremes.specs.Sweeps.{taking, shorter}
 use Rattle.extremes.proofs.Lists.{Each, each_weaken}
 use Rattle.extremes.proofs.Skipping.{skipping_agree}
-use Rattle.items.specs.Items.{Item, box_of_items}
+use Rattle.items.specs.declared.Item.{Item}
+use Rattle.items.specs.Items.{box_of_items}
 use Rattle.items.specs.Candidates.{candidates_of}
 use Rattle.items.specs.Closest.{with_item, with_each, sweep_of, closest_within, closest_of}
 use Rattle.items.proofs.WithoutTriangles.{NoTriangle}
@@ -26,8 +28,8 @@ module _ (ls rs : List Item) (alike : Each (λ (a : Item). Each (OfferAlike a) r
 
   within_alike : (box : Option Aabb) → closest_within_by_rule2 box ls rs ≡ closest_within box ls rs
   unfolding closest_within_by_rule2 sweep_by_rule2 closest_within sweep_of
-  within_alike none = refl
-  within_alike (some all) = skipping_agree _ _ _ none ls (each_weaken (λ (a : Item). Each (OfferAlike a) rs) _ (λ a h s. each_alike a h s) ls alike)
+  within_alike None = refl
+  within_alike (Some all) = skipping_agree _ _ _ None ls (each_weaken (λ (a : Item). Each (OfferAlike a) rs) _ (λ a h s. each_alike a h s) ls alike)
 
   -- where each pair of items offers the same, the sweeps are the same
   pub same_sweep : closest_by_rule2 ls rs ≡ closest_of ls rs

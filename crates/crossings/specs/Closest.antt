@@ -1,10 +1,12 @@
 -- The closest sweep by pair rule 2 (document 02, 3/13; document 01, Closest sweep). Definitions only.
 use Rattle.std.specs.Prelude.{List}
-use Rattle.std.proofs.Math.Option.{Option, none, some}
+use Rattle.std.specs.declared.option.Option.{Option}
+use Rattle.std.specs.Prelude.{None, Some}
 use Rattle.primitives.specs.declared.Witness.{Witness}
 use Rattle.primitives.specs.declared.Aabb.{Aabb}
 use Rattle.extremes.specs.ClosestSweep.{offering, with_each_by, sweep_by}
-use Rattle.items.specs.Items.{Item, box_of_item, box_of_items}
+use Rattle.items.specs.declared.Item.{Item}
+use Rattle.items.specs.Items.{box_of_item, box_of_items}
 use Rattle.crossings.specs.Crossings.{candidates_by_rule2}
 
 -- two items: their candidates in order
@@ -21,8 +23,8 @@ sweep_by_rule2 = sweep_by box_of_item with_each_by_rule2
 
 -- the same, with the box of all of B; none where B has no item
 unfoldable pub closest_within_by_rule2 : Option Aabb → List Item → List Item → Option Witness
-closest_within_by_rule2 none ls rs = none
-closest_within_by_rule2 (some all) ls rs = sweep_by_rule2 all rs none ls
+closest_within_by_rule2 None ls rs = None
+closest_within_by_rule2 (Some all) ls rs = sweep_by_rule2 all rs None ls
 
 -- the closest pair of A's items with B's by rule 2, as the sweep finds it; none where a side has no item
 unfoldable pub closest_by_rule2 : List Item → List Item → Option Witness

@@ -2,7 +2,7 @@
 use mathlib.Core.Path.{◌≡◌, refl, sym, ap, ◌∙◌}
 use mathlib.Core.Bool.{Bool, true, false, cond}
 use mathlib.Core.List.{List, [], ◌∷◌, ◌++◌, foldl, append-nil}
-use mathlib.Core.Option.{Option, none, some}
+use Rattle.std.specs.Prelude.{Option, None, Some}
 use Prim.Native.Nat.{ℕ, ◌+◌, ◌<◌}
 use native.Mathlib.Omega.{arith}
 use lib.Dec.{ltb}
@@ -22,8 +22,8 @@ module _ (c : Command) where
 
   read_on_before : (cs : List Command) (part : List ℕ) (size : Option ℕ) → read_on (c ∷ cs) part size ≡ command_before c (read_on cs part size)
   unfolding read_on command_before
-  read_on_before cs part none = refl
-  read_on_before cs part (some n) = cond_before (ltb (length part) n) (unfinished cs part) (unfinished (cs ++ (command_of part ∷ [])) [])
+  read_on_before cs part None = refl
+  read_on_before cs part (Some n) = cond_before (ltb (length part) n) (unfinished cs part) (unfinished (cs ++ (command_of part ∷ [])) [])
 
   feed_before : (r : Reading) (byte : ℕ) → feed (command_before c r) byte ≡ command_before c (feed r byte)
   unfolding feed command_before
@@ -77,7 +77,7 @@ unknown_read x rest n1 n2 n3 n4 = rw (ne_eqb x 4 n4, ne_eqb x 1 n1, ne_eqb x 2 n
 
 -- with any bytes after these, the command has so many
 abbrev pub Sized : List ℕ → ℕ → Type 0
-Sized p n = (more : List ℕ) → (is_end (p ++ more) ≡ false) × (command_bytes (p ++ more) ≡ some n)
+Sized p n = (more : List ℕ) → (is_end (p ++ more) ≡ false) × (command_bytes (p ++ more) ≡ Some n)
 
 sized_more : (p : List ℕ) (b n : ℕ) → Sized p n → Sized (p ++ (b ∷ [])) n
 sized_more p b n s more = rw append_snoc (s (b ∷ more))

@@ -1,8 +1,8 @@
 -- From what a pass comes to to what a job answers, and what a job depends on. Assumes nothing.
+use Rattle.refusals.specs.declared.Reason.TheVariants.{ListsTooShort}
 use mathlib.Core.Path.{◌≡◌, refl, ap, ◌∙◌, fun_ext}
 use mathlib.Core.List.Perm
 use mathlib.Core.List.{List, [], ◌∷◌, map}
-use mathlib.Core.Option.{Option, none, some}
 use Prim.Native.Nat.{ℕ, ◌<◌, ◌≤◌}
 use native.Mathlib.Omega.{arith}
 use borrow.Author.Tests.{lt-ltb, le-ltb}
@@ -15,20 +15,19 @@ use Rattle.outcomes.specs.Answers.{Report}
 use Rattle.outcomes.specs.Operations.{no_side, tolerance_checks}
 use Rattle.outcomes.proofs.Lengths.{SameLengths, same_distance}
 use Rattle.dig_matcher.specs.Tape.{Command, load, tolerance, pair}
-use Rattle.dig_matcher.specs.Job.{Hit, Job, Progress, going, stopped, start_of_job, after_report, after_checks, matched, after_command, stepped, if_room, job_of, HitLists, hit_lists, places_in, hits_from, Listed, ListedBy, answer_of_job, JobOutcome}
-use Rattle.dig_matcher.specs.Inner.{run_from, passed_of, placed, stored, StoredBy, PassOutcome}
-use Rattle.dig_matcher.specs.declared.JobAnswer.TheVariants as job-answer
-use Rattle.dig_matcher.specs.declared.Passed.{Passed}
-use Rattle.dig_matcher.specs.declared.Passed.TheVariants as passed
+use Rattle.dig_matcher.specs.Job.{Job, Progress, going, stopped, start_of_job, after_report, after_checks, matched, after_command, stepped, if_room, job_of, HitLists, hit_lists, places_in, hits_from, Listed, ListedBy, answer_of_job, JobOutcome}
+use Rattle.dig_matcher.specs.Inner.{run_from, passed_of, placed, stored, StoredBy, KeptBy, KeptOutcome}
+use Rattle.std.specs.Prelude.{Option, Some, None, Ok, Err}
+use Rattle.dig_matcher.specs.declared.Hit.{Hit}
 
 -- ---- of the workspaces only the lengths matter
 
 module _ (w v : Workspaces) (same : SameLengths w v) where
   same_matched : (job : Job) (i k : ℕ) (x y : Option (List ℕ)) → matched w job i k x y ≡ matched v job i k x y
   unfolding matched
-  same_matched job i k (some a) (some b) = ap (λ (r : Report). after_checks (first_of (tolerance_checks job.limit)) (after_report job i k r)) (same_distance a b w v same 1)
-  same_matched job i k (some a) none = refl
-  same_matched job i k none y = refl
+  same_matched job i k (Some a) (Some b) = ap (λ (r : Report). after_checks (first_of (tolerance_checks job.limit)) (after_report job i k r)) (same_distance a b w v same 1)
+  same_matched job i k (Some a) None = refl
+  same_matched job i k None y = refl
 
   same_after : (job : Job) (c : Command) → after_command w job c ≡ after_command v job c
   unfolding after_command
@@ -55,12 +54,12 @@ module _ (w v : Workspaces) (same : SameLengths w v) where
 
 -- ---- what the answer of a pass says of the run
 
-refused_is : (p : Progress) (r : Refusal) → passed.Refused r ≡ passed_of p → p ≡ stopped r
+refused_is : (p : Progress) (r : Refusal) → Err r ≡ passed_of p → p ≡ stopped r
 unfolding passed_of
 refused_is (going job) r e = cc
 refused_is (stopped q) r e = cc
 
-ended_is : (p : Progress) (n : ℕ) → passed.Ended n ≡ passed_of p → (job : Job) × (p ≡ going job) × (n ≡ length job.hits)
+ended_is : (p : Progress) (n : ℕ) → Ok n ≡ passed_of p → (job : Job) × (p ≡ going job) × (n ≡ length job.hits)
 unfolding passed_of
 ended_is (going job) n e = (job, refl, cc)
 ended_is (stopped r) n e = let z : ◌≡◌ {A = ℕ} 0 1 = cc in absurd (omega arith)
@@ -93,11 +92,6 @@ stored_listed l hits room =
       other_distances = field_left (λ (h : Hit). h.apart) hits l.distances;
     })
 
--- copied from where they were kept
-stored_copied : (kept l : HitLists) (hits : List Hit) → length hits ≤ places_in kept → length hits ≤ places_in l → hit_lists (placed (take (length hits) (stored kept hits).firsts) l.firsts) (placed (take (length hits) (stored kept hits).seconds) l.seconds) (placed (take (length hits) (stored kept hits).distances) l.distances) ≡ stored l hits
-stored_copied kept l hits enough room =
-    rw (stored_all kept hits enough, stored_all l hits room, field_taken (λ (h : Hit). h.first) hits kept.firsts, field_taken (λ (h : Hit). h.second) hits kept.seconds, field_taken (λ (h : Hit). h.apart) hits kept.distances)
-
 -- ---- a job's outcome
 
 module _ (tape : List ℕ) (w : Workspaces) (before : HitLists) where
@@ -109,48 +103,49 @@ module _ (tape : List ℕ) (w : Workspaces) (before : HitLists) where
   unfolding if_room
   accepted_is job e room = job_is (going job) e ∙ rw (le-ltb (places_in before) (length job.hits) room)
 
-  job_stops : (r : Refusal) → job_of tape w (places_in before) ≡ stopped r → JobOutcome tape w before before (job-answer.Refused r)
+  job_stops : (r : Refusal) → job_of tape w (places_in before) ≡ stopped r → JobOutcome tape w before before (Err r)
   unfolding answer_of_job ListedBy
   job_stops r e = record { answer = rw e; list = rw e refl }
 
-  job_accepted : (job : Job) (after : HitLists) → job_of tape w (places_in before) ≡ going job → Listed before after job.hits → JobOutcome tape w before after (job-answer.Hits (length job.hits))
+  job_accepted : (job : Job) (after : HitLists) → job_of tape w (places_in before) ≡ going job → Listed before after job.hits → JobOutcome tape w before after (Ok (length job.hits))
   unfolding answer_of_job ListedBy
   job_accepted job after e listed = record { answer = rw e; list = rw e listed }
 
-  listed_so : (n : ℕ) (job : Job) (after : HitLists) → run_from w (going start_of_job) tape ≡ going job → n ≡ length job.hits → n ≤ places_in before → after ≡ stored before job.hits → JobOutcome tape w before after (job-answer.Hits n)
+  listed_so : (n : ℕ) (job : Job) (after : HitLists) → run_from w (going start_of_job) tape ≡ going job → n ≡ length job.hits → n ≤ places_in before → after ≡ stored before job.hits → JobOutcome tape w before after (Ok n)
   listed_so n job after e counted room is =
       let fits : length job.hits ≤ places_in before = omega arith in
       rw (is, counted) (job_accepted job _ (accepted_is job e fits) (stored_listed before job.hits fits))
 
-  module _ (kept kept' : HitLists) where
-    copied_so : (n : ℕ) (job : Job) → n ≡ length job.hits → kept' ≡ stored kept job.hits → n ≤ places_in kept → n ≤ places_in before → hit_lists (placed (take n kept'.firsts) before.firsts) (placed (take n kept'.seconds) before.seconds) (placed (take n kept'.distances) before.distances) ≡ stored before job.hits
-    copied_so n job counted held enough room = rw (held, counted) (stored_copied kept before job.hits (omega arith) (omega arith))
-
-    -- the pass was refused
-    pub job_refused : (r : Refusal) → PassOutcome (run_from w (going start_of_job) tape) kept kept' (passed.Refused r) → JobOutcome tape w before before (job-answer.Refused r)
+  module _ (kept kept' : List Hit) where
+    -- the run was refused
+    pub job_refused : (r : Refusal) → KeptOutcome (run_from w (going start_of_job) tape) kept kept' (Err r) → JobOutcome tape w before before (Err r)
     unfolding if_room
     job_refused r o = job_stops r (job_is (stopped r) (refused_is _ r o.answer))
 
-    module _ (n : ℕ) (o : PassOutcome (run_from w (going start_of_job) tape) kept kept' (passed.Ended n)) where
+    module _ (n : ℕ) (o : KeptOutcome (run_from w (going start_of_job) tape) kept kept' (Ok n)) where
       -- it ended with more hits than the list holds
-      pub job_too_many : places_in before < n → JobOutcome tape w before before (job-answer.Refused (no_side 22))
+      pub job_too_many : places_in before < n → JobOutcome tape w before before (Err (no_side ListsTooShort))
       unfolding if_room
       job_too_many over =
           let found = ended_is _ n o.answer in
-          job_stops (no_side 22) (job_is (going found.0) found.1 ∙ rw (lt-ltb (places_in before) (length found.0.hits) (omega (arith, found.2))))
+          job_stops (no_side ListsTooShort) (job_is (going found.0) found.1 ∙ rw (lt-ltb (places_in before) (length found.0.hits) (omega (arith, found.2))))
 
       -- the hits kept, copied
-      pub job_copied : n ≤ places_in kept → n ≤ places_in before → JobOutcome tape w before (hit_lists (placed (take n kept'.firsts) before.firsts) (placed (take n kept'.seconds) before.seconds) (placed (take n kept'.distances) before.distances)) (job-answer.Hits n)
-      unfolding StoredBy
+      pub job_copied : n ≤ length kept → n ≤ places_in before → JobOutcome tape w before (stored before (take n kept')) (Ok n)
+      unfolding KeptBy
       job_copied enough room = by_job (ended_is _ n o.answer)
         where
-          by_job : (job : Job) × (run_from w (going start_of_job) tape ≡ going job) × (n ≡ length job.hits) → JobOutcome tape w before (hit_lists (placed (take n kept'.firsts) before.firsts) (placed (take n kept'.seconds) before.seconds) (placed (take n kept'.distances) before.distances)) (job-answer.Hits n)
-          by_job found = listed_so n found.0 _ found.1 found.2 room (copied_so n found.0 found.2 (rw found.1 at o.lists) enough room)
+          by_job : (job : Job) × (run_from w (going start_of_job) tape ≡ going job) × (n ≡ length job.hits) → JobOutcome tape w before (stored before (take n kept')) (Ok n)
+          by_job found =
+              let all : take (length kept) found.0.hits ≡ found.0.hits = take_all (length kept) found.0.hits (omega (arith, found.2)) in
+              let held : kept' ≡ placed found.0.hits kept = (rw found.1 at o.hits) ∙ rw all in
+              let same : take n kept' ≡ found.0.hits = rw (held, found.2) (take_at found.0.hits _ (length found.0.hits) refl) in
+              listed_so n found.0 _ found.1 found.2 room (rw same)
 
-      -- a second pass, which writes them where they belong
-      pub job_again : (v : Workspaces) → SameLengths w v → (after : HitLists) (r : Passed) → PassOutcome (run_from v (going start_of_job) tape) before after r → n ≤ places_in before → JobOutcome tape w before after (job-answer.Hits n)
+      -- a second run, which writes them where they belong
+      pub job_again : (v : Workspaces) → SameLengths w v → (after : HitLists) → StoredBy (run_from v (going start_of_job) tape) before after → n ≤ places_in before → JobOutcome tape w before after (Ok n)
       unfolding StoredBy
-      job_again v same after r again room = by_job (ended_is _ n o.answer)
+      job_again v same after again room = by_job (ended_is _ n o.answer)
         where
-          by_job : (job : Job) × (run_from w (going start_of_job) tape ≡ going job) × (n ≡ length job.hits) → JobOutcome tape w before after (job-answer.Hits n)
-          by_job found = listed_so n found.0 after found.1 found.2 room (rw (← (same_run w v same (going start_of_job) tape), found.1) at again.lists)
+          by_job : (job : Job) × (run_from w (going start_of_job) tape ≡ going job) × (n ≡ length job.hits) → JobOutcome tape w before after (Ok n)
+          by_job found = listed_so n found.0 after found.1 found.2 room (rw (← (same_run w v same (going start_of_job) tape), found.1) at again)

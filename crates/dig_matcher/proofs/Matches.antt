@@ -1,15 +1,13 @@
--- Two numbers matched, a hit put, and a copy of the hits kept. Assumes nothing.
+-- Two numbers matched, and a hit put. Assumes nothing.
+use Rattle.refusals.specs.declared.Reason.TheVariants.{NoSuchBlob, ToleranceBelowZero}
 use mathlib.Core.Path.{◌≡◌, refl, sym, ap, ◌∙◌}
 use mathlib.Core.Bool.{Bool, true, false, cond, ◌||◌}
 use mathlib.Core.List.{List, [], ◌∷◌, ◌++◌, append-nil}
-use mathlib.Core.Option.{Option, none, some}
 use Prim.Native.Nat.{ℕ, zero, suc, ◌+◌, ◌-◌, ◌<◌, ◌≤◌}
-use native.Mathlib.Nat.{zero-add}
-use native.Mathlib.Numerals.{add-one}
 use native.Mathlib.Omega.{arith}
 use lib.Dec.{eqb}
 use lib.ListN.{length, get_or, set, take, drop, replicate}
-use lib.Seq.{slice, take-add, drop_at, length-take-le, paste-suc}
+use lib.Seq.{slice, take-add, drop_at, length-take-le}
 use lib.Ieee.{Float, lt, le}
 use borrow.Author.Tests.{lt-ltb, le-ltb, eq-eqb, ne_eqb}
 use Rattle.ieee754.specs.MinMax.{positive_zero}
@@ -21,10 +19,10 @@ use Rattle.outcomes.specs.Answers.{number, decided, blob, nothing, Report, answe
 use Rattle.outcomes.specs.Operations.{Outcome, outcome, no_side, tolerance_checks, distance}
 use Rattle.outcomes.specs.declared.Answer.{Answer}
 use Rattle.outcomes.proofs.Lengths.{SameLengths, same_distance}
-use Rattle.dig_matcher.specs.Job.{Hit, Job, Progress, going, hits_of, after_report, after_checks, matched, HitLists, hit_lists, places_in}
-use Rattle.dig_matcher.specs.Inner.{blob_at, HasBlob, blob_if, reported_match, checked_match, match_of, after_match, placed, with_hit}
-use Rattle.dig_matcher.specs.declared.Matched.{Matched}
-use Rattle.dig_matcher.specs.declared.Matched.TheVariants as matched-case
+use Rattle.dig_matcher.specs.Job.{Job, Progress, going, hits_of, after_report, after_checks, matched, HitLists, hit_lists, places_in}
+use Rattle.dig_matcher.specs.Inner.{Matched, blob_at, HasBlob, blob_if, reported_match, checked_match, match_of, after_match, with_hit}
+use Rattle.std.specs.Prelude.{Option, Some, None, Ok, Err}
+use Rattle.dig_matcher.specs.declared.Hit.{Hit}
 
 -- ---- a match and the definition of a job
 
@@ -36,7 +34,7 @@ module _ (job : Job) (i k : ℕ) where
   unfolding with_hits
   none_more = ap with_hits (append-nil job.hits)
 
-  hit_or_none : (d : Float) (within : Bool) → with_hits (job.hits ++ cond within (record { first = i; second = k; apart = d } ∷ []) []) ≡ after_match job i k (cond within (matched-case.Hit d) matched-case.NoHit)
+  hit_or_none : (d : Float) (within : Bool) → with_hits (job.hits ++ cond within (record { first = i; second = k; apart = d } ∷ []) []) ≡ after_match job i k (cond within (Ok (Some d)) (Ok None))
   unfolding with_hits after_match
   hit_or_none d true = refl
   hit_or_none d false = none_more
@@ -51,31 +49,31 @@ module _ (job : Job) (i k : ℕ) where
 
   checked_is : (o : Option Refusal) (r : Report) → after_checks o (after_report job i k r) ≡ after_match job i k (checked_match o (reported_match job.limit r))
   unfolding after_checks checked_match after_match
-  checked_is (some x) r = refl
-  checked_is none r = reported_is r
+  checked_is (Some x) r = refl
+  checked_is None r = reported_is r
 
 -- a job's step, by what the match comes to
 pub matched_is : (w : Workspaces) (job : Job) (i k : ℕ) (x y : Option (List ℕ)) → matched w job i k x y ≡ after_match job i k (match_of w job.limit x y)
 unfolding matched match_of after_match
-matched_is w job i k (some a) (some b) = checked_is job i k (first_of (tolerance_checks job.limit)) (distance a b 1 w).report
-matched_is w job i k (some a) none = refl
-matched_is w job i k none y = refl
+matched_is w job i k (Some a) (Some b) = checked_is job i k (first_of (tolerance_checks job.limit)) (distance a b 1 w).report
+matched_is w job i k (Some a) None = refl
+matched_is w job i k None y = refl
 
 -- a distance is a hit exactly where it is at most the limit
-pub within_limit : (d limit : Float) → le d limit ≡ true → matched-case.Hit d ≡ reported_match limit (answering (number d))
+pub within_limit : (d limit : Float) → le d limit ≡ true → Ok (Some d) ≡ reported_match limit (answering (number d))
 unfolding reported_match
 within_limit d limit e = rw e
 
-pub beyond_limit : (d limit : Float) → le d limit ≡ false → matched-case.NoHit ≡ reported_match limit (answering (number d))
+pub beyond_limit : (d limit : Float) → le d limit ≡ false → Ok None ≡ reported_match limit (answering (number d))
 unfolding reported_match
 beyond_limit d limit e = rw e
 
 -- of the workspaces only the lengths matter
 pub same_match : (w v : Workspaces) → SameLengths w v → (limit : Float) (x y : Option (List ℕ)) → match_of w limit x y ≡ match_of v limit x y
 unfolding match_of
-same_match w v same limit (some a) (some b) = ap (λ (r : Report). checked_match (first_of (tolerance_checks limit)) (reported_match limit r)) (same_distance a b w v same 1)
-same_match w v same limit (some a) none = refl
-same_match w v same limit none y = refl
+same_match w v same limit (Some a) (Some b) = ap (λ (r : Report). checked_match (first_of (tolerance_checks limit)) (reported_match limit r)) (same_distance a b w v same 1)
+same_match w v same limit (Some a) None = refl
+same_match w v same limit None y = refl
 
 -- ---- the same by the blobs' places
 
@@ -101,11 +99,11 @@ both_there a b h = (λ e. first_is (rw (eq-eqb a 0 e) at h), λ e. second_is (eq
     second_is false i = first_is i
 
 module _ (tape : List ℕ) (w : Workspaces) (limit : Float) (a b : ℕ) where
-  pub none_there : (eqb a 0 || eqb b 0) ≡ true → match_of w limit (blob_if tape a) (blob_if tape b) ≡ matched-case.Refused (no_side 21)
+  pub none_there : (eqb a 0 || eqb b 0) ≡ true → match_of w limit (blob_if tape a) (blob_if tape b) ≡ Err (no_side NoSuchBlob)
   unfolding match_of blob_if
   none_there h = go (eqb a 0) (eqb b 0) h
     where
-      go : (s t : Bool) → (s || t) ≡ true → match_of w limit (cond s none (some (blob_at tape a))) (cond t none (some (blob_at tape b))) ≡ matched-case.Refused (no_side 21)
+      go : (s t : Bool) → (s || t) ≡ true → match_of w limit (cond s None (Some (blob_at tape a))) (cond t None (Some (blob_at tape b))) ≡ Err (no_side NoSuchBlob)
       go true t e = refl
       go false true e = refl
       go false false e = absurd (e_false e)
@@ -119,11 +117,11 @@ module _ (tape : List ℕ) (w : Workspaces) (limit : Float) (a b : ℕ) where
     unfolding match_of blob_if
     both = rw (ne_eqb a 0 x, ne_eqb b 0 y)
 
-    tolerance_is : (below : Bool) → lt limit positive_zero ≡ below → first_of (tolerance_checks limit) ≡ cond below (some (no_side 1)) none
+    tolerance_is : (below : Bool) → lt limit positive_zero ≡ below → first_of (tolerance_checks limit) ≡ cond below (Some (no_side ToleranceBelowZero)) None
     unfolding first_of tolerance_checks
-    tolerance_is below e = ap (λ (t : Bool). cond t (some (no_side 1)) none) e
+    tolerance_is below e = ap (λ (t : Bool). cond t (Some (no_side ToleranceBelowZero)) None) e
 
-    pub below_zero : lt limit positive_zero ≡ true → match_of w limit (blob_if tape a) (blob_if tape b) ≡ matched-case.Refused (no_side 1)
+    pub below_zero : lt limit positive_zero ≡ true → match_of w limit (blob_if tape a) (blob_if tape b) ≡ Err (no_side ToleranceBelowZero)
     unfolding checked_match
     below_zero e = both ∙ rw (tolerance_is true e)
 
@@ -148,18 +146,9 @@ pub hit_left : (k : ℕ) (h : Hit) (l : HitLists) → places_in l ≤ k → with
 unfolding with_hit
 hit_left k h l u = rw (le-ltb k (places_in l) u)
 
--- ---- zeros, and a copy
+-- ---- zeros
 
 pub zeros : (m n : ℕ) → ◌≡◌ {A = ℕ} (get_or (replicate m 0) n 0) 0
 zeros zero n = refl
 zeros (suc m) zero = refl
 zeros (suc m) (suc n) = zeros m n
-
-module _ {A : Type 0} where
-  -- the first i are copied: a turn copies one more
-  pub copy_turn : (d s : List A) (i : ℕ) (z : A) → i < length d → i < length s → set (take i s ++ drop i d) i (get_or s i z) ≡ take (i + 1) s ++ drop (i + 1) d
-  copy_turn d s i z h k = rw add-one (simp zero-add at (paste-suc d 0 s i z (rw zero-add h) k))
-
-  -- all are
-  pub copied_is : (d s : List A) (n i : ℕ) → i ≡ n → n ≤ length s → take i s ++ drop i d ≡ placed (take n s) d
-  copied_is d s n i e h = rw (length-take-le n s h, e)

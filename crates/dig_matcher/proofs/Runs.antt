@@ -1,9 +1,10 @@
 -- A run from a place of the tape on: what one command, the end and a break do to it. Assumes nothing.
+use Rattle.refusals.specs.declared.Reason.TheVariants.{BrokenTape}
 use mathlib.Core.Path.{◌≡◌, refl, fun_ext}
 use mathlib.Core.Bool.{Bool, true, false, cond}
 use mathlib.Core.List.{List, [], ◌∷◌, foldl}
 use mathlib.Core.Logic.{◌⊎◌, inl, inr}
-use mathlib.Core.Option.{none, some}
+use Rattle.std.specs.Prelude.{None, Some}
 use Prim.Native.Nat.{ℕ, ◌<◌, ◌≤◌}
 use native.Mathlib.Omega.{arith}
 use borrow.Author.Tests.{ne_eqb, eqb-true, eqb-false}
@@ -46,17 +47,17 @@ unfolding at_tape_end
 run_ended w job s e = run_end w (going job) s e
 
 -- 20
-pub run_breaks : (w : Workspaces) (job : Job) (s : List ℕ) → Breaks s → run_from w (going job) s ≡ stopped (no_side 20)
+pub run_breaks : (w : Workspaces) (job : Job) (s : List ℕ) → Breaks s → run_from w (going job) s ≡ stopped (no_side BrokenTape)
 unfolding at_tape_end
 run_breaks w job s b = run_broken w (going job) s b
 
 -- 20 too where nothing is left of the tape
-pub run_out : (w : Workspaces) (job : Job) (tape : List ℕ) (at : ℕ) → length tape ≤ at → run_from w (going job) (drop at tape) ≡ stopped (no_side 20)
+pub run_out : (w : Workspaces) (job : Job) (tape : List ℕ) (at : ℕ) → length tape ≤ at → run_from w (going job) (drop at tape) ≡ stopped (no_side BrokenTape)
 run_out w job tape at h = run_breaks w job (drop at tape) (ran_out tape at h)
 
 -- ---- blobs, by their places
 
-blob_there : (tape : List ℕ) (place : ℕ) → HasBlob tape place → blob_if tape place ≡ some (blob_at tape place)
+blob_there : (tape : List ℕ) (place : ℕ) → HasBlob tape place → blob_if tape place ≡ Some (blob_at tape place)
 unfolding blob_if
 blob_there tape place h = simp (ne_eqb place 0 (λ (e : place ≡ 0). omega (arith, h.after_length)))
 
@@ -65,7 +66,7 @@ pub loaded_at_lem : (tape places : List ℕ) (n start : ℕ) → n < length plac
 unfolding loaded_with
 loaded_at_lem tape places n start h there = fun_ext (λ (k : ℕ). at_number k (eqb k n) refl)
   where
-    at_number : (k : ℕ) (same : Bool) → eqb k n ≡ same → loaded_at tape (set places n start) k ≡ cond (eqb k n) (some (blob_at tape start)) (loaded_at tape places k)
+    at_number : (k : ℕ) (same : Bool) → eqb k n ≡ same → loaded_at tape (set places n start) k ≡ cond (eqb k n) (Some (blob_at tape start)) (loaded_at tape places k)
     at_number k true e = let z : k ≡ n = eqb-true k n e in rw (e, z, get_or-set_same places n start 0 h, blob_there tape start there)
     at_number k false e = rw (e, get_or-set_other places n k start 0 (eqb-false k n e))
 
@@ -77,7 +78,7 @@ places_set tape places n start h all there = record { each = λ (k : ℕ). at_nu
     at_number k false e = rw (get_or-set_other places n k start 0 (eqb-false k n e)) (all.each k)
 
 -- none is loaded
-pub none_loaded : (tape places : List ℕ) → ((n : ℕ) → get_or places n 0 ≡ 0) → loaded_at tape places ≡ (λ (n : ℕ). none)
+pub none_loaded : (tape places : List ℕ) → ((n : ℕ) → get_or places n 0 ≡ 0) → loaded_at tape places ≡ (λ (n : ℕ). None)
 unfolding blob_if
 none_loaded tape places h = fun_ext (λ (n : ℕ). rw (h n))
 

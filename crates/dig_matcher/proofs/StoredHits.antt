@@ -2,15 +2,16 @@
 use mathlib.Core.Path.{◌≡◌, refl, ◌∙◌}
 use mathlib.Core.Bool.{Bool, true, false, cond}
 use mathlib.Core.List.{List, [], ◌∷◌, ◌++◌, map, map-append}
-use Prim.Native.Nat.{ℕ, suc, min, ◌<◌, ◌≤◌}
+use Prim.Native.Nat.{ℕ, suc, ◌+◌, min, ◌<◌, ◌≤◌}
 use native.Mathlib.Nat.{min-le_left, min-le_right}
 use native.Mathlib.Numerals.{add-one}
 use native.Mathlib.Omega.{arith}
 use borrow.Author.Tests.{ltb-true, ltb-false}
 use lib.Dec.{ltb}
-use lib.ListN.{length, take, drop, set, length-append, length-take, length-drop, length-map}
-use lib.Seq.{take_all, take-nil, take-append-le, drop-cons, append_snoc, set-append_seam}
-use Rattle.dig_matcher.specs.Job.{Hit, HitLists, hit_lists, places_in}
+use lib.ListN.{length, take, drop, set, get_or, length-append, length-take, length-drop, length-map}
+use lib.Seq.{take-suc, length-take-le, take_all, take-nil, take-append-le, drop-cons, append_snoc, set-append_seam}
+use Rattle.dig_matcher.specs.Job.{HitLists, hit_lists, places_in}
+use Rattle.dig_matcher.specs.declared.Hit.{Hit}
 use Rattle.dig_matcher.specs.Inner.{placed, stored, with_hit}
 
 -- ---- values before what stands after them
@@ -84,3 +85,31 @@ stored_next l hits h = rw (stored_places l hits) (by_room (ltb (length hits) (pl
     by_room : (fits : Bool) → ltb (length hits) (places_in l) ≡ fits → stored l (hits ++ (h ∷ [])) ≡ cond (ltb (length hits) (places_in l)) (hit_lists (set (stored l hits).firsts (length hits) h.first) (set (stored l hits).seconds (length hits) h.second) (set (stored l hits).distances (length hits) h.apart)) (stored l hits)
     by_room true e = rw e (put_next l hits h (ltb-true _ _ e))
     by_room false e = rw e (no_room l hits h (ltb-false _ _ e))
+
+-- the first k stored, then one more
+pub stored_turn : (l : HitLists) (hits : List Hit) (k : ℕ) (d : Hit) → k < length hits → with_hit k (get_or hits k d) (stored l (take k hits)) ≡ stored l (take (k + 1) hits)
+stored_turn l hits k d under =
+    let long : length (take k hits) ≡ k = length-take-le k hits (omega arith) in
+    let more : take (k + 1) hits ≡ take k hits ++ (get_or hits k d ∷ []) = rw add-one (take-suc hits k d under) in
+    rw (more, stored_next l (take k hits) (get_or hits k d), long)
+
+pub stored_whole : (l : HitLists) (hits : List Hit) (k : ℕ) → length hits ≤ k → stored l (take k hits) ≡ stored l hits
+stored_whole l hits k over = rw (take_all k hits over)
+
+-- ---- hits kept, as many of the first as there is room for
+
+module _ (l : List Hit) where
+  pub kept_none : placed (take (length l) []) l ≡ l
+  kept_none = simp (take-nil {A = Hit})
+
+  pub kept_next : (hits : List Hit) (h : Hit) → length hits < length l → placed (take (length l) (hits ++ (h ∷ []))) l ≡ set (placed (take (length l) hits) l) (length hits) h
+  kept_next hits h under =
+      let all : take (length l) hits ≡ hits = take_all (length l) hits (omega arith) in
+      let one_more : length (hits ++ (h ∷ [])) ≤ length l = simp length-append (omega arith) in
+      rw (all, take_all (length l) (hits ++ (h ∷ [])) one_more) (placed_next hits h l under)
+
+  pub kept_full : (hits : List Hit) (h : Hit) → length l ≤ length hits → placed (take (length l) (hits ++ (h ∷ []))) l ≡ placed (take (length l) hits) l
+  kept_full hits h over = rw (take-append-le (length l) hits (h ∷ []) over)
+
+  pub kept_length : (hits : List Hit) → length (placed (take (length l) hits) l) ≡ length l
+  kept_length hits = placed_length (take (length l) hits) l (simp length-take (omega (arith, min-le_left (length l) (length hits))))

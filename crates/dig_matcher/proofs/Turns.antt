@@ -1,139 +1,180 @@
--- A pass's turns: what a step of the tape does to what is left to do, and what a pass answers. Assumes nothing.
+-- A run from hit to hit: what a step of the tape does to what is left to do, and what a hit more does to the hits so far. Assumes nothing.
+use Rattle.refusals.specs.declared.Reason.TheVariants.{BrokenTape}
 use mathlib.Core.Path.{◌≡◌, refl, sym, ◌∙◌}
 use mathlib.Core.List.{List, [], ◌∷◌, ◌++◌}
 use Prim.Native.Nat.{ℕ, ◌+◌, ◌<◌, ◌≤◌}
 use native.Mathlib.Omega.{arith}
-use lib.ListN.{length, drop, get_or, set, length-append}
+use lib.ListN.{length, take, drop, get_or, set, length-append, length-set}
 use lib.Ieee.{Float}
+use Rattle.std.specs.Prelude.{Option, Some, None, Ok, Err}
 use Rattle.ieee754.specs.MinMax.{positive_zero}
 use Rattle.refusals.specs.declared.Refusal.{Refusal}
 use Rattle.operands.specs.Operands.{Workspaces}
 use Rattle.outcomes.specs.Operations.{no_side}
 use Rattle.outcomes.proofs.Lengths.{SameLengths}
 use Rattle.dig_matcher.specs.Tape.{load, tolerance, pair}
-use Rattle.dig_matcher.specs.Job.{Hit, Job, going, stopped, start_of_job, after_command, HitLists}
-use Rattle.dig_matcher.specs.Inner.{blob_at, StepAt, Places, loaded_at, match_of, after_match, run_from, passed_of, stored, StoredBy, PassOutcome, with_hit}
+use Rattle.dig_matcher.specs.Job.{going, stopped, start_of_job, after_command, HitLists}
+use Rattle.dig_matcher.specs.Inner.{blob_at, StepAt, loaded_at, Matched, match_of, after_match, run_from, passed_of, stored, StoredBy, placed, KeptBy, KeptOutcome, RunFits, job_at, run_on, GivesNext}
+use Rattle.dig_matcher.specs.declared.Hit.{Hit}
+use Rattle.dig_matcher.specs.declared.Run.{Run}
 use Rattle.dig_matcher.specs.declared.tape.Step.TheVariants as step
-use Rattle.dig_matcher.specs.declared.Matched.{Matched}
-use Rattle.dig_matcher.specs.declared.Matched.TheVariants as matched-case
-use Rattle.dig_matcher.specs.declared.Passed.TheVariants as passed
 use Rattle.dig_matcher.proofs.Matches.{matched_is, same_match}
-use Rattle.dig_matcher.proofs.Runs.{run_command, run_stopped, run_ended, run_breaks, run_out, loaded_at_lem, places_set, none_loaded, no_places}
-use Rattle.dig_matcher.proofs.StoredHits.{stored_none, stored_next}
+use Rattle.dig_matcher.proofs.Runs.{run_command, run_stopped, run_ended, run_breaks, loaded_at_lem, places_set, none_loaded, no_places}
+use Rattle.dig_matcher.proofs.JobLaws.{same_run}
 
--- the job that a pass has come to
-abbrev pub present_job : List ℕ → List ℕ → Float → List Hit → Job
-present_job tape places limit hits = record { loaded = loaded_at tape places; limit = limit; hits = hits }
+-- what is not some is none
+pub none_left : {A : Type 0} (o : Option A) → ((x : A) → o ≡ Some x → ⊥) → o ≡ None
+none_left None f = refl
+none_left (Some x) f = absurd (f x refl)
 
--- lists of the same lengths
-pub record SameRoom (l m : HitLists) : Type 0 where
-  pub firsts : length l.firsts ≡ length m.firsts
-  pub seconds : length l.seconds ≡ length m.seconds
-  pub distances : length l.distances ≡ length m.distances
+-- ---- up to the next hit
 
--- with these hits stored, what is left of the tape gives what the whole gives
-pub record Turn (w : Workspaces) (tape : List ℕ) (before : HitLists) (places : List ℕ) (limit : Float) (hits at : ℕ) (lists : HitLists) : Type 0 where
-  pub already : List Hit
-  pub counted : hits ≡ length already
-  pub listed : lists ≡ stored before already
-  pub rest : run_from w (going start_of_job) tape ≡ run_from w (going (present_job tape places limit already)) (drop at tape)
-  pub blobs : Places tape places
-  pub few : hits ≤ at
+-- what is left from there is what was left where the call began
+pub record Turn (w : Workspaces) (tape : List ℕ) (begun r : Run) : Type 0 where
+  pub fits : RunFits tape r
+  pub forward : begun.at ≤ r.at
+  pub rest : (hits : List Hit) → run_on w tape begun hits ≡ run_on w tape r hits
 
-pub load_number : (tape : List ℕ) (at n start end : ℕ) → StepAt tape at (step.Load n start end) → n < 256
+pub load_number : (tape : List ℕ) (at n start end : ℕ) → StepAt tape at (Some (step.Load n start end)) → n < 256
 unfolding StepAt
 load_number tape at n start end s = s.0
 
-module _ (w : Workspaces) (tape : List ℕ) (before : HitLists) where
-  pub first_turn : (places : List ℕ) → ((n : ℕ) → get_or places n 0 ≡ 0) → Turn w tape before places positive_zero 0 0 before
-  first_turn places h =
-      record {
-        already = [];
-        counted = refl;
-        listed = sym (stored_none before);
-        rest = rw (none_loaded tape places h);
-        blobs = no_places tape places h;
-        few = omega arith;
-      }
+pub pair_numbers : (tape : List ℕ) (at i j next : ℕ) → StepAt tape at (Some (step.Pair i j next)) → (i < 256) × (j < 256)
+unfolding StepAt
+pair_numbers tape at i j next s = (s.0, s.1)
 
-  module _ (places : List ℕ) (limit : Float) (hits at : ℕ) (lists : HitLists) (turn : Turn w tape before places limit hits at lists) where
-    pub after_load : (n start end : ℕ) → n < length places → StepAt tape at (step.Load n start end) → Turn w tape before (set places n start) limit hits end lists
+-- a step goes on, within the tape
+pub load_on : (tape : List ℕ) (at n start end : ℕ) → StepAt tape at (Some (step.Load n start end)) → (at < end) × (end ≤ length tape)
+unfolding StepAt
+load_on tape at n start end s = (s.2.forward, s.2.inside)
+
+pub tolerance_on : (tape : List ℕ) (at : ℕ) (d : Float) (next : ℕ) → StepAt tape at (Some (step.Tolerance d next)) → (at < next) × (next ≤ length tape)
+unfolding StepAt
+tolerance_on tape at d next s = (s.forward, s.inside)
+
+pub pair_on : (tape : List ℕ) (at i j next : ℕ) → StepAt tape at (Some (step.Pair i j next)) → (at < next) × (next ≤ length tape)
+unfolding StepAt
+pair_on tape at i j next s = (s.2.forward, s.2.inside)
+
+module _ (w : Workspaces) (tape : List ℕ) where
+  pub first_turn : (r : Run) → RunFits tape r → Turn w tape r r
+  first_turn r f = record { fits = f; forward = omega arith; rest = λ hits. refl }
+
+  module _ (begun r : Run) (turn : Turn w tape begun r) where
+    pub after_load : (n start end : ℕ) → StepAt tape r.at (Some (step.Load n start end)) → Turn w tape begun (record { places = set r.places n start; limit = r.limit; at = end })
     unfolding StepAt after_command
-    after_load n start end h s =
+    after_load n start end s =
+        let h : n < length r.places = omega (arith, turn.fits.numbers, s.0) in
         record {
-          already = turn.already;
-          counted = turn.counted;
-          listed = turn.listed;
-          rest = turn.rest ∙ run_command w tape at end (load n (blob_at tape start)) (present_job tape places limit turn.already) s.2 ∙ rw (loaded_at_lem tape places n start h s.1);
-          blobs = places_set tape places n start h turn.blobs s.1;
-          few = omega (arith, turn.few, s.2.forward);
+          fits = record { numbers = rw length-set turn.fits.numbers; blobs = places_set tape r.places n start h turn.fits.blobs s.1 };
+          forward = omega (arith, turn.forward, s.2.forward);
+          rest = λ hits. turn.rest hits ∙ run_command w tape r.at end (load n (blob_at tape start)) (job_at tape r hits) s.2 ∙ rw (loaded_at_lem tape r.places n start h s.1);
         }
 
-    pub after_tolerance : (d : Float) (next : ℕ) → StepAt tape at (step.Tolerance d next) → Turn w tape before places d hits next lists
+    pub after_tolerance : (d : Float) (next : ℕ) → StepAt tape r.at (Some (step.Tolerance d next)) → Turn w tape begun (record { places = r.places; limit = d; at = next })
     unfolding StepAt after_command
     after_tolerance d next s =
         record {
-          already = turn.already;
-          counted = turn.counted;
-          listed = turn.listed;
-          rest = turn.rest ∙ run_command w tape at next (tolerance d) (present_job tape places limit turn.already) s;
-          blobs = turn.blobs;
-          few = omega (arith, turn.few, s.forward);
+          fits = record { numbers = turn.fits.numbers; blobs = turn.fits.blobs };
+          forward = omega (arith, turn.forward, s.forward);
+          rest = λ hits. turn.rest hits ∙ run_command w tape r.at next (tolerance d) (job_at tape r hits) s;
         }
 
-    pub pass_ended : StepAt tape at step.End → PassOutcome (run_from w (going start_of_job) tape) before lists (passed.Ended hits)
-    unfolding StepAt passed_of StoredBy
-    pass_ended s =
-        let e : run_from w (going start_of_job) tape ≡ going (present_job tape places limit turn.already) = turn.rest ∙ run_ended w _ (drop at tape) s in
-        record { answer = rw (e, turn.counted); lists = rw e turn.listed }
+    pub run_ends : StepAt tape r.at (Some step.End) → GivesNext w tape begun r (Ok None)
+    unfolding StepAt GivesNext
+    run_ends s hits = turn.rest hits ∙ run_ended w _ (drop r.at tape) s
 
-    pub pass_broken : StepAt tape at step.Broken → (after : HitLists) → PassOutcome (run_from w (going start_of_job) tape) before after (passed.Refused (no_side 20))
-    unfolding StepAt passed_of StoredBy
-    pass_broken s after =
-        let e : run_from w (going start_of_job) tape ≡ stopped (no_side 20) = turn.rest ∙ run_breaks w _ (drop at tape) s in
-        record { answer = rw e; lists = rw e tt }
+    pub tape_breaks : StepAt tape r.at None → GivesNext w tape begun r (Err (no_side BrokenTape))
+    unfolding StepAt GivesNext
+    tape_breaks s hits = turn.rest hits ∙ run_breaks w _ (drop r.at tape) s
 
-    pub pass_out : length tape ≤ at → (after : HitLists) → PassOutcome (run_from w (going start_of_job) tape) before after (passed.Refused (no_side 20))
-    unfolding passed_of StoredBy
-    pass_out h after =
-        let e : run_from w (going start_of_job) tape ≡ stopped (no_side 20) = turn.rest ∙ run_out w _ tape at h in
-        record { answer = rw e; lists = rw e tt }
+    module _ (i j next : ℕ) (s : StepAt tape r.at (Some (step.Pair i j next))) (v : Workspaces) (same : SameLengths w v) (m : Matched) (is : m ≡ match_of v r.limit (loaded_at tape r.places i) (loaded_at tape r.places j)) where
+      -- the run behind the pair
+      abbrev behind : Run
+      behind = record { places = r.places; limit = r.limit; at = next }
 
-    module _ (i j next : ℕ) (s : StepAt tape at (step.Pair i j next)) (v : Workspaces) (same : SameLengths w v) (m : Matched) (is : m ≡ match_of v limit (loaded_at tape places i) (loaded_at tape places j)) where
-      pair_left : run_from w (going start_of_job) tape ≡ run_from w (after_match (present_job tape places limit turn.already) i j m) (drop next tape)
+      pub still_fits : RunFits tape behind
+      still_fits = record { numbers = turn.fits.numbers; blobs = turn.fits.blobs }
+
+      pair_left : (hits : List Hit) → run_on w tape begun hits ≡ run_from w (after_match (job_at tape r hits) i j m) (drop next tape)
       unfolding StepAt after_command
-      pair_left = turn.rest ∙ run_command w tape at next (pair i j) (present_job tape places limit turn.already) s.2 ∙ rw (matched_is w (present_job tape places limit turn.already) i j (loaded_at tape places i) (loaded_at tape places j), same_match w v same limit (loaded_at tape places i) (loaded_at tape places j), is)
+      pair_left hits = turn.rest hits ∙ run_command w tape r.at next (pair i j) (job_at tape r hits) s.2 ∙ rw (matched_is w (job_at tape r hits) i j (loaded_at tape r.places i) (loaded_at tape r.places j), same_match w v same r.limit (loaded_at tape r.places i) (loaded_at tape r.places j), is)
 
-      forward : at < next
+      forward : (r.at < next) × (next ≤ length tape)
       unfolding StepAt
-      forward = s.2.forward
+      forward = (s.2.forward, s.2.inside)
 
-      pub pass_refused : (r : Refusal) → m ≡ matched-case.Refused r → (after : HitLists) → PassOutcome (run_from w (going start_of_job) tape) before after (passed.Refused r)
-      unfolding after_match passed_of StoredBy
-      pass_refused r e after =
-          let stops : run_from w (going start_of_job) tape ≡ stopped r = pair_left ∙ rw e (run_stopped w r (drop next tape)) in
-          record { answer = rw stops; lists = rw stops tt }
+      pub pair_refused : (e : Refusal) → m ≡ Err e → GivesNext w tape begun behind (Err e)
+      unfolding after_match GivesNext
+      pair_refused e f hits = pair_left hits ∙ rw f (run_stopped w e (drop next tape))
 
-      pub after_no_hit : m ≡ matched-case.NoHit → Turn w tape before places limit hits next lists
+      pub no_hit : m ≡ Ok None → Turn w tape begun behind
       unfolding after_match
-      after_no_hit e =
-          record {
-            already = turn.already;
-            counted = turn.counted;
-            listed = turn.listed;
-            rest = pair_left ∙ rw e;
-            blobs = turn.blobs;
-            few = omega (arith, turn.few, forward);
-          }
+      no_hit f = record { fits = still_fits; forward = omega (arith, turn.forward, forward.0); rest = λ hits. pair_left hits ∙ rw f }
 
-      pub after_hit : (d : Float) → m ≡ matched-case.Hit d → (after : HitLists) → after ≡ with_hit hits (record { first = i; second = j; apart = d }) lists → Turn w tape before places limit (hits + 1) next after
-      unfolding after_match
-      after_hit d e after put =
-          record {
-            already = turn.already ++ (record { first = i; second = j; apart = d } ∷ []);
-            counted = simp length-append (omega (arith, turn.counted));
-            listed = put ∙ rw (turn.listed, turn.counted) (sym (stored_next before turn.already (record { first = i; second = j; apart = d })));
-            rest = pair_left ∙ rw e;
-            blobs = turn.blobs;
-            few = omega (arith, turn.few, forward);
-          }
+      pub a_hit : (d : Float) → m ≡ Ok (Some d) → GivesNext w tape begun behind (Ok (Some (record { first = i; second = j; apart = d })))
+      unfolding after_match GivesNext
+      a_hit d f = (omega (arith, turn.forward, forward.0), forward.1, λ hits. pair_left hits ∙ rw f)
+
+-- ---- from hit to hit
+
+-- with these hits so far, what is left gives what the whole gives
+pub record HitsSoFar (w : Workspaces) (tape : List ℕ) (r : Run) (count : ℕ) (already : List Hit) : Type 0 where
+  pub counted : count ≡ length already
+  pub fits : RunFits tape r
+  pub rest : run_from w (going start_of_job) tape ≡ run_on w tape r already
+  pub few : count ≤ r.at
+
+-- a hit is found further on in the tape
+pub next_on : (w : Workspaces) (tape : List ℕ) (r r' : Run) (h : Hit) → GivesNext w tape r r' (Ok (Some h)) → (r.at < r'.at) × (r'.at ≤ length tape)
+unfolding GivesNext
+next_on w tape r r' h g = (g.0, g.1)
+
+module _ (w : Workspaces) (tape : List ℕ) where
+  pub no_hits_yet : (r : Run) → r.limit ≡ positive_zero → r.at ≡ 0 → ((n : ℕ) → get_or r.places n 0 ≡ 0) → length r.places ≡ 256 → HitsSoFar w tape r 0 []
+  no_hits_yet r limit at places numbers =
+      record {
+        counted = refl;
+        fits = record { numbers = numbers; blobs = no_places tape r.places places };
+        rest = rw (limit, at, none_loaded tape r.places places);
+        few = omega arith;
+      }
+
+  module _ (r r' : Run) (count : ℕ) (already : List Hit) (so_far : HitsSoFar w tape r count already) (v : Workspaces) (same : SameLengths w v) where
+    pub one_hit_more : RunFits tape r' → (h : Hit) → GivesNext v tape r r' (Ok (Some h)) → HitsSoFar w tape r' (count + 1) (already ++ (h ∷ []))
+    unfolding GivesNext
+    one_hit_more fits h g =
+        record {
+          counted = simp length-append (omega (arith, so_far.counted));
+          fits = fits;
+          rest = so_far.rest ∙ same_run w v same _ _ ∙ g.2 already ∙ sym (same_run w v same _ _);
+          few = omega (arith, so_far.few, g.0);
+        }
+
+    pub run_at_end : GivesNext v tape r r' (Ok None) → run_from w (going start_of_job) tape ≡ going (job_at tape r' already)
+    unfolding GivesNext
+    run_at_end g = so_far.rest ∙ same_run w v same _ _ ∙ g already
+
+    pub run_refused : (e : Refusal) → GivesNext v tape r r' (Err e) → run_from w (going start_of_job) tape ≡ stopped e
+    unfolding GivesNext
+    run_refused e g = so_far.rest ∙ same_run w v same _ _ ∙ g already
+
+-- ---- what a run comes to
+
+module _ (w : Workspaces) (tape : List ℕ) where
+  pub kept_ended : (r : Run) (before after hits : List Hit) (n : ℕ) → run_from w (going start_of_job) tape ≡ going (job_at tape r hits) → n ≡ length hits → after ≡ placed (take (length before) hits) before → KeptOutcome (run_from w (going start_of_job) tape) before after (Ok n)
+  unfolding passed_of KeptBy
+  kept_ended r before after hits n e count kept = record { answer = rw (e, count); hits = rw e kept }
+
+  pub kept_refused : (e : Refusal) (before after : List Hit) → run_from w (going start_of_job) tape ≡ stopped e → KeptOutcome (run_from w (going start_of_job) tape) before after (Err e)
+  unfolding passed_of KeptBy
+  kept_refused e before after is = record { answer = rw is; hits = rw is tt }
+
+  -- the hits are written, unless the run is refused
+  pub written_ended : (r : Run) (before after : HitLists) (hits : List Hit) → run_from w (going start_of_job) tape ≡ going (job_at tape r hits) → after ≡ stored before hits → StoredBy (run_from w (going start_of_job) tape) before after
+  unfolding StoredBy
+  written_ended r before after hits e put = rw e put
+
+  pub written_refused : (before after : HitLists) (e : Refusal) → run_from w (going start_of_job) tape ≡ stopped e → StoredBy (run_from w (going start_of_job) tape) before after
+  unfolding StoredBy
+  written_refused before after e is = rw is tt

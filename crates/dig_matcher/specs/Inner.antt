@@ -1,23 +1,23 @@
 -- A tape read from a place on, a blob by its place in the tape, and the hits that a pass stores: for inner contracts only. Definitions only.
+use Rattle.refusals.specs.declared.Reason.TheVariants.{NoSuchBlob}
 use Rattle.std.specs.Prelude.{ℕ, ◌+◌, ◌-◌, ◌<◌, ◌≤◌, ◌≡◌, true, cond, ◌⊎◌, ltb, eqb, length, take, drop, get_or, set, Float}
 use mathlib.Core.List.{List, [], ◌∷◌, ◌++◌, map, foldl}
-use Rattle.std.proofs.Math.Option.{Option, none, some}
+use Rattle.std.specs.Prelude.{Option, Some, None, Result, Ok, Err}
 use Rattle.std.proofs.Math.Seq.{slice}
 use Rattle.std.specs.Float.Ieee.{le}
 use Rattle.refusals.specs.Checks.{first_of}
+use Rattle.refusals.specs.Table.{sided}
 use Rattle.refusals.specs.declared.Refusal.{Refusal}
 use Rattle.fields.specs.Fields.{u32_at}
 use Rattle.operands.specs.Operands.{Workspaces}
 use Rattle.outcomes.specs.Answers.{number, decided, blob, nothing, Report, answering, refused}
 use Rattle.outcomes.specs.Operations.{no_side, tolerance_checks, distance}
 use Rattle.dig_matcher.specs.Tape.{Command, load, tolerance, pair, Reading, unfinished, ended, unknown, tape_of, commands_of, is_broken}
-use Rattle.dig_matcher.specs.Job.{Hit, Job, Progress, going, stopped, stepped, at_tape_end, HitLists, hit_lists, places_in}
+use Rattle.dig_matcher.specs.Job.{Job, Progress, going, stopped, stepped, at_tape_end, HitLists, hit_lists, places_in}
 use Rattle.dig_matcher.specs.declared.tape.Step.{Step}
 use Rattle.dig_matcher.specs.declared.tape.Step.TheVariants as step
-use Rattle.dig_matcher.specs.declared.Matched.{Matched}
-use Rattle.dig_matcher.specs.declared.Matched.TheVariants as matched-case
-use Rattle.dig_matcher.specs.declared.Passed.{Passed}
-use Rattle.dig_matcher.specs.declared.Passed.TheVariants as passed
+use Rattle.dig_matcher.specs.declared.Hit.{Hit}
+use Rattle.dig_matcher.specs.declared.Run.{Run}
 
 -- ---- the tape
 
@@ -42,18 +42,18 @@ pub record HasBlob (tape : List ℕ) (place : ℕ) : Type 0 where
   pub after_length : 6 ≤ place
   pub inside : place + u32_at true tape (place - 4) ≤ length tape
 
--- what a step says of the tape from at on
-unfoldable pub StepAt : List ℕ → ℕ → Step → Type 0
-StepAt tape at (step.Load n start end) = (n < 256) × HasBlob tape start × CommandAt tape at (load n (blob_at tape start)) end
-StepAt tape at (step.Tolerance d next) = CommandAt tape at (tolerance d) next
-StepAt tape at (step.Pair i j next) = (i < 256) × (j < 256) × CommandAt tape at (pair i j) next
-StepAt tape at step.End = tape_of (drop at tape) ≡ ended []
-StepAt tape at step.Broken = (is_broken (tape_of (drop at tape)) ≡ true) × (commands_of (tape_of (drop at tape)) ≡ [])
+-- what a step says of the tape from at on; none: it breaks there
+unfoldable pub StepAt : List ℕ → ℕ → Option Step → Type 0
+StepAt tape at (Some (step.Load n start end)) = (n < 256) × HasBlob tape start × CommandAt tape at (load n (blob_at tape start)) end
+StepAt tape at (Some (step.Tolerance d next)) = CommandAt tape at (tolerance d) next
+StepAt tape at (Some (step.Pair i j next)) = (i < 256) × (j < 256) × CommandAt tape at (pair i j) next
+StepAt tape at (Some step.End) = tape_of (drop at tape) ≡ ended []
+StepAt tape at None = (is_broken (tape_of (drop at tape)) ≡ true) × (commands_of (tape_of (drop at tape)) ≡ [])
 
 -- ---- the blobs that are loaded, by their places: 0 where none is
 
 unfoldable pub blob_if : List ℕ → ℕ → Option (List ℕ)
-blob_if tape place = cond (eqb place 0) none (some (blob_at tape place))
+blob_if tape place = cond (eqb place 0) None (Some (blob_at tape place))
 
 -- each number's place is 0 or has a blob
 pub record Places (tape places : List ℕ) : Type 0 where
@@ -64,28 +64,32 @@ loaded_at tape places n = blob_if tape (get_or places n 0)
 
 -- ---- two numbers matched
 
+-- what two numbers come to: how far apart their blobs are, if that is a hit
+abbrev pub Matched : Type 0
+Matched = Result (Option Float) Refusal
+
 -- what a distance's report comes to
 unfoldable pub reported_match : Float → Report → Matched
-reported_match limit (refused n side) = matched-case.Refused (record { number = n; side = side })
-reported_match limit (answering (number d)) = cond (le d limit) (matched-case.Hit d) matched-case.NoHit
-reported_match limit (answering (decided b)) = matched-case.NoHit
-reported_match limit (answering blob) = matched-case.NoHit
-reported_match limit (answering nothing) = matched-case.NoHit
+reported_match limit (refused reason side) = Err (sided side reason)
+reported_match limit (answering (number d)) = cond (le d limit) (Ok (Some d)) (Ok None)
+reported_match limit (answering (decided b)) = Ok None
+reported_match limit (answering blob) = Ok None
+reported_match limit (answering nothing) = Ok None
 
 unfoldable pub checked_match : Option Refusal → Matched → Matched
-checked_match (some r) m = matched-case.Refused r
-checked_match none m = m
+checked_match (Some r) m = Err r
+checked_match None m = m
 
 unfoldable pub match_of : Workspaces → Float → Option (List ℕ) → Option (List ℕ) → Matched
-match_of w limit (some a) (some b) = checked_match (first_of (tolerance_checks limit)) (reported_match limit (distance a b 1 w).report)
-match_of w limit (some a) none = matched-case.Refused (no_side 21)
-match_of w limit none b = matched-case.Refused (no_side 21)
+match_of w limit (Some a) (Some b) = checked_match (first_of (tolerance_checks limit)) (reported_match limit (distance a b 1 w).report)
+match_of w limit (Some a) None = Err (no_side NoSuchBlob)
+match_of w limit None b = Err (no_side NoSuchBlob)
 
 -- a job once two numbers were matched
 unfoldable pub after_match : Job → ℕ → ℕ → Matched → Progress
-after_match job i k (matched-case.Hit d) = going (record { loaded = job.loaded; limit = job.limit; hits = job.hits ++ (record { first = i; second = k; apart = d } ∷ []) })
-after_match job i k matched-case.NoHit = going job
-after_match job i k (matched-case.Refused r) = stopped r
+after_match job i k (Ok (Some d)) = going (record { loaded = job.loaded; limit = job.limit; hits = job.hits ++ (record { first = i; second = k; apart = d } ∷ []) })
+after_match job i k (Ok None) = going job
+after_match job i k (Err r) = stopped r
 
 -- ---- a pass over the tape
 
@@ -93,9 +97,9 @@ after_match job i k (matched-case.Refused r) = stopped r
 unfoldable pub run_from : Workspaces → Progress → List ℕ → Progress
 run_from w p s = at_tape_end (is_broken (tape_of s)) (foldl (stepped w) p (commands_of (tape_of s)))
 
-unfoldable pub passed_of : Progress → Passed
-passed_of (going job) = passed.Ended (length job.hits)
-passed_of (stopped r) = passed.Refused r
+unfoldable pub passed_of : Progress → Result ℕ Refusal
+passed_of (going job) = Ok (length job.hits)
+passed_of (stopped r) = Err r
 
 -- values before what stands after as many places
 abbrev pub placed : {A : Type 0} → List A → List A → List A
@@ -113,9 +117,34 @@ unfoldable pub StoredBy : Progress → HitLists → HitLists → Type 0
 StoredBy (going job) before after = after ≡ stored before job.hits
 StoredBy (stopped r) before after = Unit {0}
 
-pub record PassOutcome (p : Progress) (before after : HitLists) (r : Passed) : Type 0 where
+-- hits kept: as many of the first as there is room for; nothing is said of them where the run is stopped
+unfoldable pub KeptBy : Progress → List Hit → List Hit → Type 0
+KeptBy (going job) before after = after ≡ placed (take (length before) job.hits) before
+KeptBy (stopped r) before after = Unit {0}
+
+pub record KeptOutcome (p : Progress) (before after : List Hit) (r : Result ℕ Refusal) : Type 0 where
   pub answer : r ≡ passed_of p
-  pub lists : StoredBy p before after
+  pub hits : KeptBy p before after
+
+-- ---- a run from hit to hit
+
+pub record RunFits (tape : List ℕ) (r : Run) : Type 0 where
+  pub numbers : length r.places ≡ 256
+  pub blobs : Places tape r.places
+
+-- the job that a run has come to with these hits
+abbrev pub job_at : List ℕ → Run → List Hit → Job
+job_at tape r hits = record { loaded = loaded_at tape r.places; limit = r.limit; hits = hits }
+
+-- what is left of the tape, run from there
+abbrev pub run_on : Workspaces → List ℕ → Run → List Hit → Progress
+run_on w tape r hits = run_from w (going (job_at tape r hits)) (drop r.at tape)
+
+-- the next hit is the next of the run's, the end is its end, and a refusal stops it
+unfoldable pub GivesNext : Workspaces → List ℕ → Run → Run → Result (Option Hit) Refusal → Type 0
+GivesNext w tape r r' (Ok (Some h)) = (r.at < r'.at) × (r'.at ≤ length tape) × ((hits : List Hit) → run_on w tape r hits ≡ run_on w tape r' (hits ++ (h ∷ [])))
+GivesNext w tape r r' (Ok None) = (hits : List Hit) → run_on w tape r hits ≡ going (job_at tape r' hits)
+GivesNext w tape r r' (Err e) = (hits : List Hit) → run_on w tape r hits ≡ stopped e
 
 -- one hit, after k others
 unfoldable pub with_hit : ℕ → Hit → HitLists → HitLists

@@ -1,27 +1,21 @@
 -- A job: the commands of a tape, one after the other, and the list of its hits (document 02, 5/13). Definitions only.
 -- Undecided are the order of the hits in the list, and what a job leaves in the workspaces, refused or not: the request leaves both open. Not seen here is the
 -- payload of a NaN that a place of the distances held and keeps, since the model of floats has one NaN; a hit's distance is never NaN.
-use Rattle.std.specs.Prelude.{ℕ, min, ◌≡◌, Bool, true, false, cond, ltb, eqb, length, take, drop, Float}
+use Rattle.refusals.specs.declared.Reason.TheVariants.{BrokenTape, ListsTooShort, NoSuchBlob}
+use Rattle.std.specs.Prelude.{ℕ, min, ◌≡◌, Bool, true, false, cond, ltb, eqb, length, take, drop, Float, Option, None, Some, Result, Ok, Err}
 use mathlib.Core.List.{List, [], ◌∷◌, ◌++◌, foldl, Perm}
-use Rattle.std.proofs.Math.Option.{Option, none, some}
 use Rattle.std.specs.Float.Ieee.{le}
 use Rattle.ieee754.specs.MinMax.{positive_zero}
 use Rattle.refusals.specs.Checks.{first_of}
+use Rattle.refusals.specs.Table.{sided}
 use Rattle.refusals.specs.declared.Refusal.{Refusal}
 use Rattle.operands.specs.Operands.{Workspaces}
 use Rattle.outcomes.specs.Answers.{Value, number, decided, blob, nothing, Report, answering, refused}
 use Rattle.outcomes.specs.Operations.{no_side, tolerance_checks, distance}
 use Rattle.dig_matcher.specs.Tape.{Command, load, tolerance, pair, tape_of, commands_of, is_broken}
-use Rattle.dig_matcher.specs.declared.JobAnswer.{JobAnswer}
-use Rattle.dig_matcher.specs.declared.JobAnswer.TheVariants as job-answer
+use Rattle.dig_matcher.specs.declared.Hit.{Hit}
 
 -- ---- what a job holds
-
--- "both numbers and the distance"
-pub record Hit : Type 0 where
-  pub first : ℕ
-  pub second : ℕ
-  pub apart : Float
 
 -- the blob loaded under each number, the tolerance, the hits so far
 pub record Job : Type 0 where
@@ -31,7 +25,7 @@ pub record Job : Type 0 where
 
 -- "The tolerance starts at 0"
 abbrev pub start_of_job : Job
-start_of_job = record { loaded = λ n. none; limit = positive_zero; hits = [] }
+start_of_job = record { loaded = λ n. None; limit = positive_zero; hits = [] }
 
 -- it goes on, or a refusal has ended it
 pub data Progress : Type 0 where
@@ -42,7 +36,7 @@ pub data Progress : Type 0 where
 
 -- "loading a number again replaces it"
 unfoldable pub loaded_with : ℕ → List ℕ → (ℕ → Option (List ℕ)) → ℕ → Option (List ℕ)
-loaded_with n s loaded k = cond (eqb k n) (some s) (loaded k)
+loaded_with n s loaded k = cond (eqb k n) (Some s) (loaded k)
 
 -- a hit "if it is within tolerance": a NaN distance is not, under a NaN tolerance nothing is, and where there is no distance there is no hit
 unfoldable pub hits_of : ℕ → ℕ → Float → Value → List Hit
@@ -53,20 +47,20 @@ hits_of i j limit nothing = []
 
 -- "A measuring refusal ends the job with its own number and side"
 unfoldable pub after_report : Job → ℕ → ℕ → Report → Progress
-after_report job i j (refused n side) = stopped (record { number = n; side = side })
+after_report job i j (refused reason side) = stopped (sided side reason)
 after_report job i j (answering v) = going (record { loaded = job.loaded; limit = job.limit; hits = job.hits ++ hits_of i j job.limit v })
 
 -- a check's refusal, else as it goes on
 unfoldable pub after_checks : Option Refusal → Progress → Progress
-after_checks (some r) p = stopped r
-after_checks none p = p
+after_checks (Some r) p = stopped r
+after_checks None p = p
 
 -- "21, a number not loaded"; then "a tolerance below 0 is met as 1"; then the distance of side 1, the first, from side 2, by rule 1. Of the workspaces only the
 -- lengths matter
 unfoldable pub matched : Workspaces → Job → ℕ → ℕ → Option (List ℕ) → Option (List ℕ) → Progress
-matched w job i j (some a) (some b) = after_checks (first_of (tolerance_checks job.limit)) (after_report job i j (distance a b 1 w).report)
-matched w job i j (some a) none = stopped (no_side 21)
-matched w job i j none b = stopped (no_side 21)
+matched w job i j (Some a) (Some b) = after_checks (first_of (tolerance_checks job.limit)) (after_report job i j (distance a b 1 w).report)
+matched w job i j (Some a) None = stopped (no_side NoSuchBlob)
+matched w job i j None b = stopped (no_side NoSuchBlob)
 
 unfoldable pub after_command : Workspaces → Job → Command → Progress
 after_command w job (load n s) = going (record { loaded = loaded_with n s job.loaded; limit = job.limit; hits = job.hits })
@@ -82,13 +76,13 @@ stepped w (stopped r) c = stopped r
 
 -- 20 where the tape breaks, after the commands before that
 unfoldable pub at_tape_end : Bool → Progress → Progress
-at_tape_end true (going job) = stopped (no_side 20)
+at_tape_end true (going job) = stopped (no_side BrokenTape)
 at_tape_end false (going job) = going job
 at_tape_end broken (stopped r) = stopped r
 
 -- "22, more hits than the list holds", "22 after all"
 unfoldable pub if_room : ℕ → Progress → Progress
-if_room room (going job) = cond (ltb room (length job.hits)) (stopped (no_side 22)) (going job)
+if_room room (going job) = cond (ltb room (length job.hits)) (stopped (no_side ListsTooShort)) (going job)
 if_room room (stopped r) = stopped r
 
 -- a job with workspaces of these lengths, whose list has so many places
@@ -130,11 +124,11 @@ ListedBy (going job) before after = Listed before after job.hits
 ListedBy (stopped r) before after = after ≡ before
 
 -- "The answer is the number of hits"
-unfoldable pub answer_of_job : Progress → JobAnswer
-answer_of_job (going job) = job-answer.Hits (length job.hits)
-answer_of_job (stopped r) = job-answer.Refused r
+unfoldable pub answer_of_job : Progress → Result ℕ Refusal
+answer_of_job (going job) = Ok (length job.hits)
+answer_of_job (stopped r) = Err r
 
 -- the answer, and the list after the call, from the one before it
-pub record JobOutcome (tape : List ℕ) (w : Workspaces) (before after : HitLists) (r : JobAnswer) : Type 0 where
+pub record JobOutcome (tape : List ℕ) (w : Workspaces) (before after : HitLists) (r : Result ℕ Refusal) : Type 0 where
   pub answer : r ≡ answer_of_job (job_of tape w (places_in before))
   pub list : ListedBy (job_of tape w (places_in before)) before after

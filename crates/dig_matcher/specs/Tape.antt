@@ -1,7 +1,7 @@
 -- A tape of one-byte commands with little-endian operands of fixed width (document 02, 5/13). Definitions only.
 use Rattle.std.specs.Prelude.{ℕ, ◌+◌, Bool, true, false, cond, ltb, eqb, length, get_or, drop, Float}
 use mathlib.Core.List.{List, [], ◌∷◌, ◌++◌, foldl}
-use Rattle.std.proofs.Math.Option.{Option, none, some}
+use Rattle.std.specs.Prelude.{Option, None, Some}
 use Rattle.fields.specs.Fields.{u32_at, f64_at}
 
 -- ---- commands
@@ -20,9 +20,9 @@ is_end part = eqb (get_or part 0 0) 4
 -- 03 u8 u8; none: the first byte is none of these (04 is tested before)
 unfoldable pub command_bytes : List ℕ → Option ℕ
 command_bytes part =
-    cond (eqb (get_or part 0 0) 1) (some (cond (ltb (length part) 6) 6 (6 + u32_at true part 2)))
-    (cond (eqb (get_or part 0 0) 2) (some 9)
-    (cond (eqb (get_or part 0 0) 3) (some 3) none))
+    cond (eqb (get_or part 0 0) 1) (Some (cond (ltb (length part) 6) 6 (6 + u32_at true part 2)))
+    (cond (eqb (get_or part 0 0) 2) (Some 9)
+    (cond (eqb (get_or part 0 0) 3) (Some 3) None))
 
 -- the command, by all its bytes, whose number `command_bytes` gave
 unfoldable pub command_of : List ℕ → Command
@@ -41,8 +41,8 @@ pub data Reading : Type 0 where
 
 -- with the bytes of the next command so far, which has so many
 unfoldable pub read_on : List Command → List ℕ → Option ℕ → Reading
-read_on cs part none = unknown cs
-read_on cs part (some n) = cond (ltb (length part) n) (unfinished cs part) (unfinished (cs ++ (command_of part ∷ [])) [])
+read_on cs part None = unknown cs
+read_on cs part (Some n) = cond (ltb (length part) n) (unfinished cs part) (unfinished (cs ++ (command_of part ∷ [])) [])
 
 -- one byte more; after 04 "bytes after it are ignored"
 unfoldable pub feed : Reading → ℕ → Reading

@@ -3,50 +3,29 @@
 // Undecided in its contracts are the order of the hits and what a job leaves in the workspaces, refused or not.
 //
 // 1. `tape`: the commands, read one by one from the tape's bytes.
-// 2. A pass runs the commands (`pass`). Blobs stay where they are in the tape; an array has their places.
-// 3. Nothing may be written before the whole tape is accepted, so a pass first keeps hits in arrays of its own. Where
-//    these hold all of them they are copied; else a second pass writes them where they belong (`job`).
+// 2. A run goes through the commands from hit to hit (`Run`). Blobs stay where they are in the tape; an array has their
+//    places.
+// 3. Nothing may be written before the whole tape is accepted, so hits are first kept in an array of the matcher's own.
+//    Where it holds all of them they are copied; else a second run writes them where they belong (`job`).
 #![tactic(auto)]
 
 mod tape;
 
-ghost use Rattle.std.specs.Prelude.{◌≡◌, ◌||◌, ◌⊎◌, eqb, ℕ, min, ◌+◌, ◌^◌, ◌<◌, ◌≤◌, length, take, get_or};
+ghost use Rattle.std.specs.Prelude.{◌≡◌, ◌||◌, ◌⊎◌, eqb, ℕ, min, length, get_or};
+ghost use Rattle.ieee754.specs.MinMax.{positive_zero};
 ghost use Rattle.outcomes.specs.Answers.{answer_report};
 ghost use Rattle.outcomes.specs.Lent.{lent};
-ghost use Rattle.outcomes.specs.Operations.{no_side};
-ghost use Rattle.dig_matcher.specs.Job.{going, stopped, start_of_job, hit_lists, JobOutcome};
+ghost use Rattle.dig_matcher.specs.Job.{going, start_of_job, hit_lists, JobOutcome};
 ghost use Rattle.dig_matcher.specs.Inner.{blob_at, HasBlob, blob_if, reported_match, match_of};
-ghost use Rattle.dig_matcher.specs.Inner.{run_from, passed_of, placed, with_hit, PassOutcome};
+ghost use Rattle.dig_matcher.specs.Inner.{run_from, stored, with_hit, RunFits, GivesNext, KeptOutcome, StoredBy};
 
 use outcomes::Answer;
-use refusals::Refusal;
+use refusals::{Reason, Refusal, Side};
 use tape::{Step, read_command};
 use threed_closest::st_3d_distance;
 
-// The number of hits, or a refusal.
-#[derive(Clone, Copy)]
-pub enum JobAnswer {
-    Hits(usize),
-    Refused(Refusal),
-}
-
-// How a pass over the tape went.
-#[derive(Clone, Copy)]
-pub enum Passed {
-    Ended(usize),
-    Refused(Refusal),
-}
-
-// What two numbers came to.
-#[derive(Clone, Copy)]
-pub enum Matched {
-    Hit(f64),
-    NoHit,
-    Refused(Refusal),
-}
-
 // Two numbers, and how far apart their blobs are.
-#[derive(Clone, Copy)]
+#[derive(Clone, Copy, PartialEq, Debug)]
 pub struct Hit {
     pub first: u16,
     pub second: u16,
@@ -68,18 +47,15 @@ fn blob_at(tape: &[u8], place: usize) -> &[u8]
     &tape[place..place + n]
 }
 
-// What an answered distance comes to under a limit.
-fn match_by(answer: Answer, limit: f64) -> Matched
+// How far apart two blobs are, if that is within a limit.
+#[tactic(auto, unfolding(crate::specs::Inner::reported_match))]
+fn match_by(answer: Answer, limit: f64) -> Result<Option<f64>, Refusal>
     ensures { result ≡ reported_match limit (answer_report answer) }
 {
     match answer {
-        Answer::Refused(refusal) => Matched::Refused(refusal),
-        Answer::Nothing => Matched::NoHit, // no distance: not within
-        Answer::Measured(d) => if d <= limit {
-            Matched::Hit(d)
-        } else {
-            Matched::NoHit
-        },
+        Answer::Refused(refusal) => Err(refusal),
+        Answer::Nothing => Ok(None), // no distance: not within
+        Answer::Measured(d) => if d <= limit { Ok(Some(d)) } else { Ok(None) },
     }
 }
 
@@ -87,10 +63,7 @@ fn match_by(answer: Answer, limit: f64) -> Matched
 fn is_missing(a: usize, b: usize) -> bool
     ensures { result ≡ (eqb a 0 || eqb b 0) }
 {
-    if a == 0 {
-        return true;
-    }
-    b == 0
+    a == 0 || b == 0
 }
 
 // The blobs at two places, 0 where none is loaded: their distance by rule 1, if it is within the limit.
@@ -103,7 +76,7 @@ fn match_pair(
     table1: &mut [u32],
     floats2: &mut [f64],
     table2: &mut [u32],
-) -> Matched
+) -> Result<Option<f64>, Refusal>
     requires fact { (a ≡ 0) ⊎ HasBlob tape.now a }
     requires fact_2 { (b ≡ 0) ⊎ HasBlob tape.now b }
     ensures { result ≡ match_of (lent floats1 table1 floats2 table2) limit
@@ -112,13 +85,10 @@ fn match_pair(
     let missing = is_missing(a, b);
     let below = limit < 0.0;
     if missing {
-        return Matched::Refused(Refusal {
-            number: 21,
-            side: 0,
-        });
+        return Err(Reason::NoSuchBlob.of(Side::Neither));
     }
     if below {
-        return Matched::Refused(Refusal { number: 1, side: 0 });
+        return Err(Reason::ToleranceBelowZero.of(Side::Neither));
     }
     let answer = st_3d_distance(
         blob_at(tape, a),
@@ -136,22 +106,13 @@ fn match_pair(
 fn places_in(first: usize, second: usize, distances: usize) -> usize
     ensures { result ≡ min first (min second distances) }
 {
-    if first < second {
-        if first < distances { first } else { distances }
-    } else {
-        if second < distances {
-            second
-        } else {
-            distances
-        }
-    }
+    first.min(second.min(distances))
 }
 
 // A hit, as the one after k others; where a list has no place for it, nothing.
 fn put_hit(first: &mut [u16], second: &mut [u16], distances: &mut [f64], k: usize, hit: Hit)
     ensures { hit_lists first.new second.new distances.new
-        ≡ with_hit k (record { first = hit.first; second = hit.second; apart = hit.apart })
-        (hit_lists first.old second.old distances.old) }
+        ≡ with_hit k hit (hit_lists first.old second.old distances.old) }
 {
     if places_in(first.len(), second.len(), distances.len()) <= k {
         return;
@@ -161,7 +122,17 @@ fn put_hit(first: &mut [u16], second: &mut [u16], distances: &mut [f64], k: usiz
     distances[k] = hit.apart;
 }
 
-// No blob is loaded. A function of its own, as those below, so that no proof looks into an array of this length.
+// The hits that were kept, into the first places of the lists.
+fn put_hits(first: &mut [u16], second: &mut [u16], distances: &mut [f64], hits: &[Hit])
+    ensures { hit_lists first.new second.new distances.new
+        ≡ stored (hit_lists first.old second.old distances.old) hits.now }
+{
+    for (k, hit) in hits.iter().enumerate() {
+        put_hit(first, second, distances, k, *hit);
+    }
+}
+
+// No blob is loaded. A function of its own, so that no proof looks into an array of this length.
 fn no_places() -> [usize; NUMBERS]
     ensures by_index { (n : ℕ) → get_or result n 0 ≡ 0 }
     ensures result_len { length result ≡ 256 }
@@ -169,77 +140,118 @@ fn no_places() -> [usize; NUMBERS]
     [0usize; NUMBERS]
 }
 
-fn no_numbers() -> [u16; KEPT] {
-    [0u16; KEPT]
-}
-
-fn no_distances() -> [f64; KEPT] {
-    [0.0; KEPT]
-}
-
-// The first n numbers that were kept.
-fn copy_numbers(out: &mut [u16], kept: &[u16], n: usize)
-    requires n_in_bounds { n ≤ length out.old }
-    requires n_in_bounds_2 { n ≤ length kept.now }
-    ensures { out.new ≡ placed (take n kept.now) out.old }
+fn no_hits() -> [Hit; KEPT]
+    ensures { length result ≡ 4096 }
 {
-    let mut i: usize = 0;
-    while i < n {
-        out[i] = kept[i];
-        i += 1;
+    [Hit {
+        first: 0,
+        second: 0,
+        apart: 0.0,
+    }; KEPT]
+}
+
+// A run through a tape: where the blob of each number starts in it, 0 where none is loaded; the tolerance; and where the
+// next command is.
+#[derive(Drop)]
+struct Run {
+    places: [usize; NUMBERS],
+    limit: f64,
+    at: usize,
+}
+
+impl Run {
+    fn start() -> Run
+        ensures { (result.limit ≡ positive_zero) × (result.at ≡ 0)
+            × ((n : ℕ) → get_or result.places n 0 ≡ 0) × (length result.places ≡ 256) }
+    {
+        Run {
+            places: no_places(),
+            limit: 0.0,
+            at: 0,
+        }
+    }
+
+    // The commands up to the next hit, or to the tape's end.
+    fn next_hit(
+        &mut self,
+        tape: &[u8],
+        floats1: &mut [f64],
+        table1: &mut [u32],
+        floats2: &mut [f64],
+        table2: &mut [u32],
+    ) -> Result<Option<Hit>, Refusal>
+        requires { RunFits tape.now self.old }
+        ensures fits { RunFits tape.now self.new }
+        ensures next { GivesNext (lent floats1 table1 floats2 table2) tape.now self.old
+            self.new result }
+    {
+        while let Some(step) = read_command(tape, self.at) {
+            match step {
+                Step::End => {
+                    return Ok(None);
+                }
+                Step::Load { number, start, end } => {
+                    self.places[number as usize] = start;
+                    self.at = end;
+                }
+                Step::Tolerance { limit, next } => {
+                    self.limit = limit;
+                    self.at = next;
+                }
+                Step::Pair {
+                    first,
+                    second,
+                    next,
+                } => {
+                    let a = self.places[first as usize];
+                    let b = self.places[second as usize];
+                    self.at = next;
+                    let matched = match_pair(
+                        tape, a, b, self.limit, floats1, table1, floats2, table2,
+                    )?;
+                    match matched {
+                        None => {}
+                        Some(apart) => {
+                            return Ok(Some(Hit {
+                                first,
+                                second,
+                                apart,
+                            }));
+                        }
+                    }
+                }
+            }
+        }
+        // 20: an unknown command, or the tape ends before 04 or inside a command.
+        Err(Reason::BrokenTape.of(Side::Neither))
     }
 }
 
-// The first n distances that were kept.
-fn copy_distances(out: &mut [f64], kept: &[f64], n: usize)
-    requires n_in_bounds { n ≤ length out.old }
-    requires n_in_bounds_2 { n ≤ length kept.now }
-    ensures { out.new ≡ placed (take n kept.now) out.old }
+// The number of a tape's hits; the array gets as many of the first as it holds.
+fn keep_hits(
+    tape: &[u8],
+    floats1: &mut [f64],
+    table1: &mut [u32],
+    floats2: &mut [f64],
+    table2: &mut [u32],
+    kept: &mut [Hit],
+) -> Result<usize, Refusal>
+    ensures { KeptOutcome (run_from (lent floats1 table1 floats2 table2) (going start_of_job) tape.now)
+        kept.old kept.new result }
 {
-    let mut i: usize = 0;
-    while i < n {
-        out[i] = kept[i];
-        i += 1;
+    let mut run = Run::start();
+    let mut hits: usize = 0;
+    while let Some(hit) = run.next_hit(tape, floats1, table1, floats2, table2)? {
+        if hits < kept.len() {
+            kept[hits] = hit;
+        }
+        hits += 1;
     }
+    Ok(hits)
 }
 
-// A hit more, after k others: the number of hits then.
-fn add_hit(
-    first: &mut [u16],
-    second: &mut [u16],
-    distances: &mut [f64],
-    k: usize,
-    i: u16,
-    j: u16,
-    apart: f64,
-) -> usize
-    requires { k < 2 ^ 63 }
-    ensures count { result ≡ k + 1 }
-    ensures lists { hit_lists first.new second.new distances.new
-        ≡ with_hit k (record { first = i; second = j; apart = apart })
-        (hit_lists first.old second.old distances.old) }
-{
-    let hit = Hit {
-        first: i,
-        second: j,
-        apart,
-    };
-    put_hit(first, second, distances, k, hit);
-    k + 1
-}
-
-// 20: an unknown command, or the tape ends before 04 or inside a command.
-fn broken() -> Passed
-    ensures { result ≡ passed_of (stopped (no_side 20)) }
-{
-    Passed::Refused(Refusal {
-        number: 20,
-        side: 0,
-    })
-}
-
-// The commands of the tape, one after the other; of the hits the lists get as many of the first as they hold.
-fn pass(
+// The hits of a tape that is accepted, where they belong.
+fn write_hits(
     tape: &[u8],
     floats1: &mut [f64],
     table1: &mut [u32],
@@ -248,52 +260,27 @@ fn pass(
     first: &mut [u16],
     second: &mut [u16],
     distances: &mut [f64],
-) -> Passed
-    ensures { PassOutcome (run_from (lent floats1 table1 floats2 table2) (going start_of_job) tape.now)
+)
+    ensures { StoredBy (run_from (lent floats1 table1 floats2 table2) (going start_of_job) tape.now)
         (hit_lists first.old second.old distances.old)
-        (hit_lists first.new second.new distances.new) result }
+        (hit_lists first.new second.new distances.new) }
 {
-    let mut places = no_places();
-    let mut limit: f64 = 0.0;
+    let mut run = Run::start();
     let mut hits: usize = 0;
-    let mut at: usize = 0;
-    while at < tape.len() {
-        match read_command(tape, at) {
-            Step::Broken => {
-                return broken();
+    loop {
+        match run.next_hit(tape, floats1, table1, floats2, table2) {
+            Ok(None) => {
+                return;
             }
-            Step::End => {
-                return Passed::Ended(hits);
+            Err(_) => {
+                return;
             }
-            Step::Load { number, start, end } => {
-                places[number as usize] = start;
-                at = end;
-            }
-            Step::Tolerance { limit: d, next } => {
-                limit = d;
-                at = next;
-            }
-            Step::Pair {
-                first: i,
-                second: j,
-                next,
-            } => {
-                let a = places[i as usize];
-                let b = places[j as usize];
-                match match_pair(tape, a, b, limit, floats1, table1, floats2, table2) {
-                    Matched::Refused(refusal) => {
-                        return Passed::Refused(refusal);
-                    }
-                    Matched::NoHit => {}
-                    Matched::Hit(apart) => {
-                        hits = add_hit(first, second, distances, hits, i, j, apart);
-                    }
-                }
-                at = next;
+            Ok(Some(hit)) => {
+                put_hit(first, second, distances, hits, hit);
+                hits += 1;
             }
         }
     }
-    broken()
 }
 
 // A job: the number of its hits, which are in the first places of the three lists.
@@ -306,35 +293,22 @@ pub fn job(
     first: &mut [u16],
     second: &mut [u16],
     distances: &mut [f64],
-) -> JobAnswer
+) -> Result<usize, Refusal>
     ensures whole_outcome { JobOutcome tape.now (lent floats1 table1 floats2 table2)
         (hit_lists first.old second.old distances.old)
         (hit_lists first.new second.new distances.new) result }
 {
-    let mut kept1 = no_numbers();
-    let mut kept2 = no_numbers();
-    let mut kept3 = no_distances();
-    match pass(
-        tape, floats1, table1, floats2, table2, &mut kept1, &mut kept2, &mut kept3,
-    ) {
-        Passed::Refused(refusal) => JobAnswer::Refused(refusal),
-        Passed::Ended(hits) => {
-            if places_in(first.len(), second.len(), distances.len()) < hits {
-                return JobAnswer::Refused(Refusal {
-                    number: 22,
-                    side: 0,
-                });
-            }
-            if hits <= KEPT {
-                copy_numbers(first, &kept1, hits);
-                copy_numbers(second, &kept2, hits);
-                copy_distances(distances, &kept3, hits);
-            } else {
-                pass(
-                    tape, floats1, table1, floats2, table2, first, second, distances,
-                );
-            }
-            JobAnswer::Hits(hits)
-        }
+    let mut kept = no_hits();
+    let hits = keep_hits(tape, floats1, table1, floats2, table2, &mut kept)?;
+    if places_in(first.len(), second.len(), distances.len()) < hits {
+        return Err(Reason::ListsTooShort.of(Side::Neither));
     }
+    if hits <= KEPT {
+        put_hits(first, second, distances, &kept[..hits]);
+    } else {
+        write_hits(
+            tape, floats1, table1, floats2, table2, first, second, distances,
+        );
+    }
+    Ok(hits)
 }

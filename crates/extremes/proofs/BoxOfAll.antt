@@ -5,11 +5,11 @@ use mathlib.Core.Logic.{◌↔◌}
 use mathlib.Core.Bool.{true}
 use mathlib.Core.List.{List, [], ◌∷◌, foldl, map}
 use mathlib.Core.Option
-use mathlib.Core.Option.{none, some, some-injective, none-ne-some}
-use Prim.Native.Nat.{ℕ}
+use Rattle.std.specs.Prelude.{Some, None}
+use Rattle.std.proofs.lemmas.Option.{none-some, same_Some}
+use mathlib.Core.Option.{some}
 use lib.Dec.{T}
-use lib.Ieee.{Float, binary64, is_nan, fits, of_bits}
-use lib.Ieee.Bits.{of_bits-fits}
+use lib.Ieee.{Float, binary64, is_nan, fits}
 use Rattle.ieee754.specs.MinMax.{minimum_of, maximum_of}
 use Rattle.ieee754.proofs.AxisBounds as bounds
 use Rattle.ieee754.proofs.AxisBounds.{least_over, greatest_over, AtEach, own_held, axis_holds_each, least_nan_exactly, greatest_nan_exactly}
@@ -19,21 +19,13 @@ use Rattle.primitives.specs.declared.Aabb.{Aabb}
 use Rattle.primitives.specs.Boxes.{box_of_point, add_point}
 use Rattle.extremes.specs.Sweeps.{box_of_all}
 use Rattle.extremes.proofs.Lists.{Each, each_at, at_each, each_weaken, each_mapped, mapped_each, get_mapped}
-
--- each ordinate of a point is a value of binary64 (`Float` has other values too)
-pub record IsBinary64 (p : Point) : Type 0 where
-  pub fit_x : T (fits binary64 p.x)
-  pub fit_y : T (fits binary64 p.y)
-  pub fit_z : T (fits binary64 p.z)
-
--- what patterns stand for is of binary64
-pub patterns_binary64 : (x y z : ℕ) → IsBinary64 (record { x = of_bits binary64 x; y = of_bits binary64 y; z = of_bits binary64 z })
-patterns_binary64 x y z = record { fit_x = of_bits-fits binary64 x; fit_y = of_bits-fits binary64 y; fit_z = of_bits-fits binary64 z }
+-- points of binary64
+pub use Rattle.primitives.proofs.Squares.{IsBinary64, patterns_binary64}
 
 -- where there is a point, there is a box
-pub box_exists : (p : Point) (l : List Point) → box_of_all (p ∷ l) ≡ none → ⊥
+pub box_exists : (p : Point) (l : List Point) → box_of_all (p ∷ l) ≡ None → ⊥
 unfolding box_of_all
-box_exists p l e = none-ne-some (foldl add_point (box_of_point p) l) (sym e)
+box_exists p l e = none-some (foldl add_point (box_of_point p) l) (sym e)
 
 -- ---- an axis: a box's two ends on it, and a point's ordinate
 pub record Axis : Type 0 where
@@ -48,15 +40,15 @@ pub record Axis : Type 0 where
 
 unfoldable pub axis_x : Axis
 unfolding box_of_point add_point
-axis_x = record { lo = λ b. b.lo_x; hi = λ b. b.hi_x; at = λ p. p.x; at_fits = λ p f. f.fit_x; lo_point = λ p. refl; hi_point = λ p. refl; lo_added = λ b p. refl; hi_added = λ b p. refl }
+axis_x = record { lo = λ b. b.lo.x; hi = λ b. b.hi.x; at = λ p. p.x; at_fits = λ p f. f.fit_x; lo_point = λ p. refl; hi_point = λ p. refl; lo_added = λ b p. refl; hi_added = λ b p. refl }
 
 unfoldable pub axis_y : Axis
 unfolding box_of_point add_point
-axis_y = record { lo = λ b. b.lo_y; hi = λ b. b.hi_y; at = λ p. p.y; at_fits = λ p f. f.fit_y; lo_point = λ p. refl; hi_point = λ p. refl; lo_added = λ b p. refl; hi_added = λ b p. refl }
+axis_y = record { lo = λ b. b.lo.y; hi = λ b. b.hi.y; at = λ p. p.y; at_fits = λ p f. f.fit_y; lo_point = λ p. refl; hi_point = λ p. refl; lo_added = λ b p. refl; hi_added = λ b p. refl }
 
 unfoldable pub axis_z : Axis
 unfolding box_of_point add_point
-axis_z = record { lo = λ b. b.lo_z; hi = λ b. b.hi_z; at = λ p. p.z; at_fits = λ p f. f.fit_z; lo_point = λ p. refl; hi_point = λ p. refl; lo_added = λ b p. refl; hi_added = λ b p. refl }
+axis_z = record { lo = λ b. b.lo.z; hi = λ b. b.hi.z; at = λ p. p.z; at_fits = λ p f. f.fit_z; lo_point = λ p. refl; hi_point = λ p. refl; lo_added = λ b p. refl; hi_added = λ b p. refl }
 
 module _ (x : Axis) where
   -- the ends are values of binary64
@@ -88,10 +80,10 @@ module _ (x : Axis) where
   hi_of_all b [] = refl
   hi_of_all b (p ∷ l) = hi_of_all (add_point b p) l ∙ ap (λ (a : Float). greatest_over a (map x.at l)) (x.hi_added b p)
 
-  module _ (p : Point) (l : List Point) (b : Aabb) (e : box_of_all (p ∷ l) ≡ some b) where
+  module _ (p : Point) (l : List Point) (b : Aabb) (e : box_of_all (p ∷ l) ≡ Some b) where
     is_box : foldl add_point (box_of_point p) l ≡ b
     unfolding box_of_all
-    is_box = some-injective (foldl add_point (box_of_point p) l) b e
+    is_box = same_Some (foldl add_point (box_of_point p) l) b e
 
     lo_is : x.lo b ≡ least_over (x.at p) (map x.at l)
     lo_is = ap x.lo (sym is_box) ∙ lo_of_all (box_of_point p) l ∙ ap (λ (a : Float). least_over a (map x.at l)) (x.lo_point p)
@@ -122,11 +114,11 @@ module _ (x : Axis) where
     greatest_end_nan = rw hi_is (Iff.trans (greatest_nan_exactly (x.at p) (map x.at l)) lists)
 
   -- for any list
-  pub box_ends_fit : (l : List Point) (b : Aabb) → Each IsBinary64 l → box_of_all l ≡ some b → EndsFit b
-  box_ends_fit [] b f e = absurd (none-ne-some b (unfold box_of_all in e))
+  pub box_ends_fit : (l : List Point) (b : Aabb) → Each IsBinary64 l → box_of_all l ≡ Some b → EndsFit b
+  box_ends_fit [] b f e = absurd (none-some b (unfold box_of_all in e))
   box_ends_fit (p ∷ l) b f e = all_fit p l b e f
 
-  pub box_within : (l : List Point) (b : Aabb) → Each IsBinary64 l → box_of_all l ≡ some b → Each (Within b) l
+  pub box_within : (l : List Point) (b : Aabb) → Each IsBinary64 l → box_of_all l ≡ Some b → Each (Within b) l
   box_within [] b f e = tt
   box_within (p ∷ l) b f e = all_within p l b e f
 
@@ -147,7 +139,7 @@ point_inside p f = record { on_x = point_within axis_x p f; on_y = point_within 
 pub point_fitting : (p : Point) → IsBinary64 p → Fitting (box_of_point p)
 point_fitting p f = record { ends_x = point_ends_fit axis_x p f; ends_y = point_ends_fit axis_y p f; ends_z = point_ends_fit axis_z p f }
 
-module _ (l : List Point) (b : Aabb) (f : Each IsBinary64 l) (e : box_of_all l ≡ some b) where
+module _ (l : List Point) (b : Aabb) (f : Each IsBinary64 l) (e : box_of_all l ≡ Some b) where
   pub box_fitting : Fitting b
   box_fitting = record { ends_x = box_ends_fit axis_x l b f e; ends_y = box_ends_fit axis_y l b f e; ends_z = box_ends_fit axis_z l b f e }
 

@@ -21,7 +21,7 @@ pub box_no_farther : (box : Aabb) (p q a b : Point) → IsBinary64 a → IsBinar
 unfolding axis_x axis_y axis_z box_of_point greatest_gap greatest_squared_gap between_of witness_of squared_distance dot_of difference_of
 box_no_farther box p q a b u v f i h =
     let c : IsNumber (between_of p q).d = square_number (between_of p q).d (le_number_right (mul binary64 (greatest_squared_gap (box_of_point a) box) one_plus_slack) (squared (between_of p q).d) h) in
-    farthest_skip a.x a.y a.z b.x b.y b.z box.lo_x box.lo_y box.lo_z box.hi_x box.hi_y box.hi_z (squared_distance p q)
+    farthest_skip a.x a.y a.z b.x b.y b.z box.lo.x box.lo.y box.lo.z box.hi.x box.hi.y box.hi.z (squared_distance p q)
     u.fit_x u.fit_y u.fit_z v.fit_x v.fit_y v.fit_z
     f.ends_x.0 f.ends_y.0 f.ends_z.0 f.ends_x.1 f.ends_y.1 f.ends_z.1 (squares_fit p q) (squares_sign_clear p q c) i.on_x i.on_y i.on_z h
 
@@ -31,6 +31,6 @@ unfolding axis_x axis_y axis_z box_of_point least_gap least_squared_gap between_
 box_no_closer box p q a b u v f i h =
     let c : IsNumber (between_of p q).d = square_number (between_of p q).d (le_number_left (squared (between_of p q).d) (mul binary64 (least_squared_gap (box_of_point a) box) one_minus_slack) h) in
     let j = point_inside a u in
-    closest_skip a.x a.y a.z b.x b.y b.z a.x a.y a.z a.x a.y a.z box.lo_x box.lo_y box.lo_z box.hi_x box.hi_y box.hi_z (squared_distance p q)
+    closest_skip a.x a.y a.z b.x b.y b.z a.x a.y a.z a.x a.y a.z box.lo.x box.lo.y box.lo.z box.hi.x box.hi.y box.hi.z (squared_distance p q)
     u.fit_x u.fit_y u.fit_z v.fit_x v.fit_y v.fit_z u.fit_x u.fit_y u.fit_z u.fit_x u.fit_y u.fit_z
     f.ends_x.0 f.ends_y.0 f.ends_z.0 f.ends_x.1 f.ends_y.1 f.ends_z.1 (squares_fit p q) (squares_sign_clear p q c) j.on_x j.on_y j.on_z i.on_x i.on_y i.on_z h

@@ -1,19 +1,19 @@
 -- The computed distance of two points, and where it is no NaN. Assumes nothing.
-use mathlib.Core.Path.{◌≡◌, refl}
 use mathlib.Core.Bool.{not}
 use lib.Dec.{T}
-use lib.Ieee.{Float, binary64, sub, is_nan, fits}
+use lib.Ieee.{Float, binary64, sub, is_nan}
 use lib.Ieee.Fits.{sub-fits}
-use Rattle.ieee754.specs.Root.{root_of}
 use Rattle.ieee754.proofs.Differences.{difference_number}
-use Rattle.ieee754.proofs.RootLaws.{root_fits, root_number}
+use Rattle.ieee754.proofs.RootLaws.{root_number}
 use Rattle.ieee754.proofs.SignClear.{sign_clear}
-use Rattle.ieee754.proofs.SumsAndSquares.{sum_of_squares_fits, sum_of_squares_numbers, sum_of_squares_sign_clear}
+use Rattle.ieee754.proofs.SumsAndSquares.{sum_of_squares_numbers, sum_of_squares_sign_clear}
 use Rattle.primitives.specs.declared.Point.{Point}
 use Rattle.primitives.specs.Vectors.{difference_of, dot_of, squared_distance}
-use Rattle.primitives.specs.Witnesses.{witness_of, between_of}
+use Rattle.primitives.specs.Witnesses.{between_of}
 use Rattle.extremes.specs.Pairs.{Pair}
 use Rattle.extremes.specs.Extreme.{HasDistance, distance_of}
+-- the sum of squares and its root
+pub use Rattle.primitives.proofs.Squares.{squares_fit, distance_is_root, distance_fits}
 
 abbrev pub IsNumber : Float → Type 0
 IsNumber x = T (not (is_nan x))
@@ -23,18 +23,6 @@ pub record NoNan (p : Point) : Type 0 where
   pub on_x : IsNumber p.x
   pub on_y : IsNumber p.y
   pub on_z : IsNumber p.z
-
--- ---- the sum of squares and its root
-pub squares_fit : (a b : Point) → T (fits binary64 (squared_distance a b))
-unfolding squared_distance dot_of
-squares_fit a b = sum_of_squares_fits (difference_of a b).x (difference_of a b).y (difference_of a b).z
-
-pub distance_is_root : (a b : Point) → (between_of a b).d ≡ root_of (squared_distance a b)
-unfolding between_of witness_of
-distance_is_root a b = refl
-
-pub distance_fits : (a b : Point) → T (fits binary64 (between_of a b).d)
-distance_fits a b = rw (distance_is_root a b) (root_fits (squared_distance a b) (squares_fit a b))
 
 -- ---- where the distance is no NaN
 module _ (a b : Point) (n : IsNumber (between_of a b).d) where

@@ -4,7 +4,10 @@ use mathlib.Core.Logic.Iff
 use mathlib.Core.Logic.{◌↔◌, ◌⊎◌, inl, inr}
 use mathlib.Core.Bool.{Bool, true, false, cond}
 use mathlib.Core.List.{List, [], ◌∷◌, ◌++◌, foldl, foldl-map, map}
-use mathlib.Core.Option.{Option, none, some, none-ne-some, some-injective}
+use Rattle.std.specs.declared.option.Option.{Option}
+use Rattle.std.specs.Prelude.{Some, None}
+use Rattle.std.proofs.lemmas.Option.{none-some}
+use mathlib.Core.Option.{some, none-ne-some, some-injective}
 use Prim.Native.Nat.{ℕ, zero, suc, ◌<◌}
 use native.Mathlib.Decide.{dec_lt}
 use native.Mathlib.Omega.{arith}
@@ -27,8 +30,8 @@ abbrev pub best_of : {A : Type 0} → (A → Point) → (Float → Float → Boo
 best_of point beats s l = foldl (λ best p. taking beats best (measured point p)) s l
 
 -- the best of all pairs of mapped vertices
-pub best_mapped : {A : Type 0} (point : A → Point) (beats : Float → Float → Bool) (ls rs : List A) → best_of (λ v. v) beats none (pairs_of (map point ls) (map point rs)) ≡ best_of point beats none (pairs_of ls rs)
-best_mapped point beats ls rs = ap (best_of (λ v. v) beats none) (pairs_mapped point ls rs) ∙ foldl-map (map_pair point) (λ best p. taking beats best (measured (λ v. v) p)) (pairs_of ls rs) none
+pub best_mapped : {A : Type 0} (point : A → Point) (beats : Float → Float → Bool) (ls rs : List A) → best_of (λ v. v) beats None (pairs_of (map point ls) (map point rs)) ≡ best_of point beats None (pairs_of ls rs)
+best_mapped point beats ls rs = ap (best_of (λ v. v) beats None) (pairs_mapped point ls rs) ∙ foldl-map (map_pair point) (λ best p. taking beats best (measured (λ v. v) p)) (pairs_of ls rs) None
 
 -- End theorem: there is one first position only.
 pub first_unique : {A : Type 0} (distance : Pair A → Float) (order : Float → Float → Bool) (l : List (Pair A)) (k k' : ℕ) (p p' : Pair A) → FirstAt distance order l k p → FirstAt distance order l k' p' → k ≡ k'
@@ -68,7 +71,7 @@ module _ {A : Type 0} (point : A → Point) where
       k : ℕ
       pair : Pair A
       there : get_elem? l k ≡ some pair
-      given : r ≡ some (measured point pair)
+      given : r ≡ Some (measured point pair)
       counts : HasDistance distance pair
       each : Each (Under pair) l
       before : Before (Beaten pair) k l
@@ -103,13 +106,13 @@ module _ {A : Type 0} (point : A → Point) where
         go zero t b = record { k = zero; pair = w.pair; there = t; given = w.given; counts = w.counts; each = each'; before = tt }
         go (suc k) t b = record { k = suc (suc k); pair = w.pair; there = t; given = w.given; counts = w.counts; each = each'; before = (b.0, (λ n. beats_down σ (distance x) (distance p) (distance w.pair) (number x n) (number p c) (number w.pair w.counts) (low n) (b.0 c), b.1)) }
 
-    won : (p : Pair A) (l : List (Pair A)) → HasDistance distance p → Won (p ∷ l) (best_of point beats (some (measured point p)) l)
+    won : (p : Pair A) (l : List (Pair A)) → HasDistance distance p → Won (p ∷ l) (best_of point beats (Some (measured point p)) l)
     unfolding taking
     won p [] c = record { k = zero; pair = p; there = refl; given = refl; counts = c; each = (λ _. order_self σ (distance p) (number p c), tt); before = tt }
     won p (x ∷ l) c = go (beats (distance p) (distance x)) refl (λ n. won x l n) (won p l c)
       where
-        go : (t : Bool) → beats (distance p) (distance x) ≡ t → (HasDistance distance x → Won (x ∷ l) (best_of point beats (some (measured point x)) l)) → Won (p ∷ l) (best_of point beats (some (measured point p)) l)
-            → Won (p ∷ x ∷ l) (best_of point beats (some (cond t (measured point x) (measured point p))) l)
+        go : (t : Bool) → beats (distance p) (distance x) ≡ t → (HasDistance distance x → Won (x ∷ l) (best_of point beats (Some (measured point x)) l)) → Won (p ∷ l) (best_of point beats (Some (measured point p)) l)
+            → Won (p ∷ x ∷ l) (best_of point beats (Some (cond t (measured point x) (measured point p))) l)
         go true h v w = replaced p x l _ c h (v (σ.winner (distance p) (distance x) h))
         go false h v w = stayed p x l _ c h w
 
@@ -124,31 +127,31 @@ module _ {A : Type 0} (point : A → Point) where
 
     -- ---- none, and not none
     -- a best, once there, stays there, NaN or not
-    some_stays : (w : Witness) (l : List (Pair A)) → best_of point beats (some w) l ≡ none → ⊥
+    some_stays : (w : Witness) (l : List (Pair A)) → best_of point beats (Some w) l ≡ None → ⊥
     unfolding taking
-    some_stays w [] h = none-ne-some w (sym h)
+    some_stays w [] h = none-some w (sym h)
     some_stays w (p ∷ l) h = some_stays (better_of beats w (measured point p)) l h
 
-    none_empty : (ls rs : List A) → best_of point beats none (pairs_of ls rs) ≡ none → (ls ≡ []) ⊎ (rs ≡ [])
+    none_empty : (ls rs : List A) → best_of point beats None (pairs_of ls rs) ≡ None → (ls ≡ []) ⊎ (rs ≡ [])
     unfolding taking pairs_of pairs_with
     none_empty [] rs h = inl refl
     none_empty (a ∷ ls) [] h = inr refl
     none_empty (a ∷ ls) (b ∷ rs) h = absurd (some_stays (measured point (record { left = a; right = b })) (pairs_with a rs ++ pairs_of ls (b ∷ rs)) h)
 
-    empty_none : (ls rs : List A) → (ls ≡ []) ⊎ (rs ≡ []) → best_of point beats none (pairs_of ls rs) ≡ none
+    empty_none : (ls rs : List A) → (ls ≡ []) ⊎ (rs ≡ []) → best_of point beats None (pairs_of ls rs) ≡ None
     unfolding pairs_of
-    empty_none ls rs (inl e) = ap (λ (l : List A). best_of point beats none (pairs_of l rs)) e
-    empty_none ls rs (inr e) = ap (λ (l : List A). best_of point beats none (pairs_of ls l)) e ∙ ap (best_of point beats none) (no_pairs ls)
+    empty_none ls rs (inl e) = ap (λ (l : List A). best_of point beats None (pairs_of l rs)) e
+    empty_none ls rs (inr e) = ap (λ (l : List A). best_of point beats None (pairs_of ls l)) e ∙ ap (best_of point beats None) (no_pairs ls)
 
-    answered : (l : List (Pair A)) (p : Pair A) → get_elem? l 0 ≡ some p → HasDistance distance p → IsFirst distance order l (λ q. best_of point beats none l ≡ some (measured point q))
+    answered : (l : List (Pair A)) (p : Pair A) → get_elem? l 0 ≡ some p → HasDistance distance p → IsFirst distance order l (λ q. best_of point beats None l ≡ Some (measured point q))
     unfolding taking
     answered [] p h c = absurd (none-ne-some p h)
     answered (q ∷ l) p h c =
         let w = won q l (subst (HasDistance distance) (sym (some-injective q p h)) c) in
-        record { k = w.k; pair = w.pair; first = first_at (q ∷ l) (best_of point beats (some (measured point q)) l) w; given = w.given }
+        record { k = w.k; pair = w.pair; first = first_at (q ∷ l) (best_of point beats (Some (measured point q)) l) w; given = w.given }
 
     -- an answer that is the best of all pairs has the third property
-    pub best_holds : (ls rs : List A) (answer : Option Witness) → answer ≡ best_of point beats none (pairs_of ls rs) → Holds (distance_of point) order ls rs (answer ≡ none) (λ p. answer ≡ some (measured point p))
+    pub best_holds : (ls rs : List A) (answer : Option Witness) → answer ≡ best_of point beats None (pairs_of ls rs) → Holds (distance_of point) order ls rs (answer ≡ None) (λ p. answer ≡ Some (measured point p))
     best_holds ls rs answer e =
         record {
           none_exactly = (λ h. none_empty ls rs (sym e ∙ h), λ h. e ∙ empty_none ls rs h);

@@ -10,9 +10,7 @@ pub mod EitherWay
 pub mod BoxSkips
 pub mod Taking
 pub mod BestSoFar
-pub mod EqualRoots
 pub mod Offered
-pub mod Closer
 pub mod NanBest
 pub mod Repeats
 pub mod ClosestPoints

@@ -1,74 +1,53 @@
 -- A witness offered to the best so far, in either sense: when it changes nothing, when only its sum is kept, and what a new best is. Assumes nothing.
-use mathlib.Core.Path.{◌≡◌, refl, sym, ◌∙◌, subst}
-use mathlib.Core.Bool.{Bool, true, false, cond, false≢true}
-use mathlib.Core.Option.{none, some}
+use mathlib.Core.Path.{◌≡◌, refl, sym, ◌∙◌}
+use mathlib.Core.Bool.{Bool, true, false, cond}
 use lib.Dec.{T}
-use lib.Ieee.{Float, nan, binary64, eq, fits}
-use Rattle.ieee754.specs.MinMax.{positive_zero}
+use lib.Ieee.{Float, binary64, eq, fits}
+use Rattle.std.specs.declared.option.Option.{Option}
+use Rattle.std.specs.Prelude.{Some, None}
 use Rattle.ieee754.specs.Root.{root_of}
-use Rattle.ieee754.proofs.FloatOrder.{nan_le, le_nan}
-use Rattle.ieee754.proofs.NotBelowZero.{root_not_below}
-use Rattle.ieee754.proofs.RootLaws.{le→roots_not_lt}
 use Rattle.primitives.specs.declared.Witness.{Witness}
-use Rattle.extremes.specs.declared.Best.{Best}
-use Rattle.extremes.specs.Extreme.{at_most, at_least}
-use Rattle.extremes.specs.InnerBest.{best_of, Sound, Keeps}
-use Rattle.extremes.specs.Sweeps.{longer, shorter, taking}
-use Rattle.extremes.proofs.BestSoFar.{empty}
+use Rattle.primitives.specs.Witnesses.{better_of}
+use Rattle.extremes.specs.BestSoFar.{Sound, found_of}
+use Rattle.extremes.specs.RootSense.{RootSense}
+use Rattle.extremes.specs.Sweeps.{taking}
 use Rattle.extremes.proofs.Taking.{unbeaten_stays}
 
--- the order of sums is that of their roots, and NaN stands in no order
-pub record RootSense (order beats : Float → Float → Bool) : Type 0 where
-  pub no_nan : (s : Float) → T (order s nan) → ⊥
-  pub roots : (s t : Float) → T (fits binary64 s) → T (fits binary64 t) → T (order s t) → beats (root_of t) (root_of s) ≡ false
-
-pub longest_roots : RootSense at_most longer
-longest_roots = record { no_nan = le_nan; roots = λ s t f g h. le→roots_not_lt s t f g h }
-
-pub shortest_roots : RootSense at_least shorter
-shortest_roots = record { no_nan = nan_le; roots = λ s t f g h. le→roots_not_lt t s g f h }
-
 -- w is a witness whose distance is the root of s
-module _ {order beats : Float → Float → Bool} (ρ : RootSense order beats) (b : Best) (w : Witness) (s : Float) (h : Sound b) (f : T (fits binary64 s)) (r : w.d ≡ root_of s) where
+module _ {order beats : Float → Float → Bool} (ρ : RootSense order beats) where
   -- a sum that stands in the order to the best's: no root is needed
-  pub sum_not_better : order s b.sum ≡ true → Keeps b (taking beats (best_of b) w)
-  sum_not_better l = record { same = go (empty b) refl; sound = h }
-    where
-      in_order : T (order s b.sum)
-      in_order = subst T (sym l) tt
+  pub sum_not_better : (sum : Float) (found : Option Witness) (s : Float) (w : Witness) → Sound sum found → T (fits binary64 s) → order s sum ≡ true → w.d ≡ root_of s → taking beats found w ≡ found
+  sum_not_better sum None s w h f l r = absurd (ρ.no_nan s (rw h.kept at l))
+  sum_not_better sum (Some best) s w h f l r = unbeaten_stays beats (Some best) w (rw (r, h.kept) (ρ.roots s sum f h.fitting l))
 
-      go : (t : Bool) → empty b ≡ t → cond t none (some b.witness) ≡ taking beats (cond t none (some b.witness)) w
-      go true e = absurd (ρ.no_nan s (rw (h.empty e) at in_order))
-      go false e = sym (unbeaten_stays beats (some b.witness) w (rw (r, h.root e) (ρ.roots s b.sum f h.fitting in_order)))
-
-  module _ (e : empty b ≡ false) (l : beats b.witness.d w.d ≡ false) where
-    unbeaten : best_of b ≡ taking beats (best_of b) w
-    unbeaten = rw e (sym (unbeaten_stays beats (some b.witness) w l))
-
-    -- a root that does not beat the best
-    pub root_not_better : Keeps b (taking beats (best_of b) w)
-    root_not_better = record { same = unbeaten; sound = h }
-
+  module _ (sum : Float) (best : Witness) (s : Float) (w : Witness) (h : Sound sum (Some best)) (f : T (fits binary64 s)) (r : w.d ≡ root_of s) where
     -- the same root: the best with the later sum, which spares the roots of more sums
-    pub sum_renewed : w.d ≡ b.witness.d → Keeps (record { sum = s; witness = b.witness }) (taking beats (best_of b) w)
-    sum_renewed q = record { same = unbeaten; sound = record { empty = λ t. absurd (false≢true (sym e ∙ t)); root = λ t. sym q ∙ r; fitting = f } }
+    pub sum_renewed : order s sum ≡ false → eq w.d best.d ≡ true → Sound s (Some best)
+    sum_renewed l e = record { kept = h.kept ∙ sym (ρ.equal s sum f h.fitting l (rw (r, h.kept) at e)); fitting = f }
 
-  -- w as the best, with s
-  abbrev new_best : Best
-  new_best = record { sum = s; witness = w }
+-- w as the best, with s
+pub new_sound : (s : Float) (w : Witness) → T (fits binary64 s) → w.d ≡ root_of s → Sound s (Some w)
+new_sound s w f r = record { kept = r; fitting = f }
 
-  new_held : empty new_best ≡ false
-  new_held = rw r (root_not_below s f positive_zero (unfold eq in refl))
+module _ (beats : Float → Float → Bool) (best w : Witness) where
+  -- the better of two: the new one if its distance beats the best's
+  pub new_is_better : beats best.d w.d ≡ true → better_of beats best w ≡ w
+  new_is_better l = rw l
 
-  new_sound : Sound new_best
-  new_sound = record { empty = λ t. absurd (false≢true (sym new_held ∙ t)); root = λ t. r; fitting = f }
+  -- else the best
+  pub best_is_better : beats best.d w.d ≡ false → better_of beats best w ≡ best
+  best_is_better l = rw l
 
-  -- the first is taken
-  pub first_taken : empty b ≡ true → Keeps new_best (taking beats (best_of b) w)
+  -- it stands for a witness if both do
+  pub better_found : found_of best ≡ Some best → found_of w ≡ Some w → found_of (better_of beats best w) ≡ taking beats (Some best) w
   unfolding taking
-  first_taken e = record { same = rw (e, new_held); sound = new_sound }
+  better_found b n = go (beats best.d w.d)
+    where
+      go : (t : Bool) → found_of (cond t w best) ≡ Some (cond t w best)
+      go true = n
+      go false = b
 
-  -- one whose root beats it replaces it
-  pub better_taken : empty b ≡ false → beats b.witness.d w.d ≡ true → Keeps new_best (taking beats (best_of b) w)
-  unfolding taking
-  better_taken e l = record { same = rw (e, new_held, l); sound = new_sound }
+-- the first is taken
+pub first_taken : (beats : Float → Float → Bool) (w : Witness) → taking beats None w ≡ Some w
+unfolding taking
+first_taken beats w = refl

@@ -1,7 +1,8 @@
 -- A closest sweep over items of several kinds is, where both sides hold points only, the closest sweep of points. Assumes nothing.
 use mathlib.Core.Path.{◌≡◌, refl, ap, ◌∙◌}
 use mathlib.Core.List.{List, [], ◌∷◌, foldl, map}
-use mathlib.Core.Option.{Option, none}
+use Rattle.std.specs.declared.option.Option.{Option}
+use Rattle.std.specs.Prelude.{None}
 use Rattle.primitives.specs.declared.Point.{Point}
 use Rattle.primitives.specs.declared.Witness.{Witness}
 use Rattle.primitives.specs.declared.Aabb.{Aabb}
@@ -33,7 +34,7 @@ module _ {Item : Type 0} (item : Point → Item) (box_of : Item → Aabb) (box_i
 
   -- all outer items, against the box of all inner ones first
   pub outer_items : (box : Aabb) (ps qs : List Point)
-      → sweep_by box_of (with_each_by box_of offer) box (map item qs) none (map item ps) ≡ sweep_by box_of_point closest_from box qs none ps
+      → sweep_by box_of (with_each_by box_of offer) box (map item qs) None (map item ps) ≡ sweep_by box_of_point closest_from box qs None ps
   outer_items box ps qs =
       skipping_mapped (λ (t : Option Witness). t) item (λ s p. no_closer s (least_squared_gap (box_of_point p) box)) (λ s p. closest_from p s qs) (λ s o. no_closer s (least_squared_gap (box_of o) box)) (λ s o. with_each_by box_of offer o s (map item qs))
-      (λ s p. rw (box_is p)) (λ s p. inner_items qs s p) none ps
+      (λ s p. rw (box_is p)) (λ s p. inner_items qs s p) None ps

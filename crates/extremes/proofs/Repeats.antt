@@ -2,11 +2,12 @@
 use mathlib.Core.Path.{◌≡◌, refl, sym, ap, ◌∙◌}
 use mathlib.Core.Bool.{Bool, true, false, cond}
 use mathlib.Core.List.{List, [], ◌∷◌, ◌++◌, foldl, map}
-use mathlib.Core.Option.{Option, some}
+use Rattle.std.specs.declared.option.Option.{Option}
+use Rattle.std.specs.Prelude.{Some}
 use lib.Ieee.{Float, is_nan}
 use Rattle.primitives.specs.declared.Point.{Point}
 use Rattle.primitives.specs.declared.Aabb.{Aabb}
-use Rattle.primitives.specs.Boxes.{box_of_point, add_point, least_corner, greatest_corner, union_of}
+use Rattle.primitives.specs.Boxes.{box_of_point, add_point, union_of}
 use Rattle.extremes.specs.Sweeps.{skipping, longer, shorter, box_of_all}
 
 -- the first list is the second with elements repeated in their place
@@ -78,31 +79,23 @@ module _ (beats : Float → Float → Bool) where
 pub add_twice : (b : Aabb) (p : Point) → add_point (add_point b p) p ≡ add_point b p
 unfolding add_point
 add_twice b p = λ i. record {
-  lo_x = twice shorter b.lo_x p.x i;
-  lo_y = twice shorter b.lo_y p.y i;
-  lo_z = twice shorter b.lo_z p.z i;
-  hi_x = twice longer b.hi_x p.x i;
-  hi_y = twice longer b.hi_y p.y i;
-  hi_z = twice longer b.hi_z p.z i;
+  lo = record { x = twice shorter b.lo.x p.x i; y = twice shorter b.lo.y p.y i; z = twice shorter b.lo.z p.z i };
+  hi = record { x = twice longer b.hi.x p.x i; y = twice longer b.hi.y p.y i; z = twice longer b.hi.z p.z i };
 }
 
 pub add_own_point : (p : Point) → add_point (box_of_point p) p ≡ box_of_point p
 unfolding add_point box_of_point
 add_own_point p = λ i. record {
-  lo_x = self shorter p.x i;
-  lo_y = self shorter p.y i;
-  lo_z = self shorter p.z i;
-  hi_x = self longer p.x i;
-  hi_y = self longer p.y i;
-  hi_z = self longer p.z i;
+  lo = record { x = self shorter p.x i; y = self shorter p.y i; z = self shorter p.z i };
+  hi = record { x = self longer p.x i; y = self longer p.y i; z = self longer p.z i };
 }
 
 -- the union with a point's box is the box with the point added
 pub union_with_point : (b : Aabb) (p : Point) → union_of b (box_of_point p) ≡ add_point b p
-union_with_point b p = unfold union_of least_corner greatest_corner box_of_point in add_twice b p
+union_with_point b p = unfold union_of box_of_point in add_twice b p
 
 pub box_repeats : {l m : List Point} → Repeats l m → box_of_all l ≡ box_of_all m
 unfolding box_of_all
 box_repeats done = refl
-box_repeats (once {x} r) = ap {B = Option Aabb} some (fold_repeats add_point (λ b. Unit {0}) (λ b p g. tt) (λ b p g. add_twice b p) r (box_of_point x) tt)
-box_repeats (again {x} {l} r) = ap (λ (b : Aabb). some (foldl add_point b l)) (add_own_point x) ∙ box_repeats r
+box_repeats (once {x} r) = ap {B = Option Aabb} Some (fold_repeats add_point (λ b. Unit {0}) (λ b p g. tt) (λ b p g. add_twice b p) r (box_of_point x) tt)
+box_repeats (again {x} {l} r) = ap (λ (b : Aabb). Some (foldl add_point b l)) (add_own_point x) ∙ box_repeats r

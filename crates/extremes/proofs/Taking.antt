@@ -2,7 +2,8 @@
 use mathlib.Core.Path.{◌≡◌, refl, ap, ◌∙◌}
 use mathlib.Core.Bool.{Bool, true, false, cond}
 use mathlib.Core.List.{List, [], ◌∷◌, foldl}
-use mathlib.Core.Option.{Option, none, some}
+use Rattle.std.specs.declared.option.Option.{Option}
+use Rattle.std.specs.Prelude.{Some, None}
 use lib.Dec.{T}
 use lib.Ieee.{Float, binary64, fits}
 use Rattle.primitives.specs.declared.Point.{Point}
@@ -12,23 +13,20 @@ use Rattle.extremes.specs.Sweeps.{taking}
 use Rattle.extremes.proofs.Lists.{Each}
 use Rattle.extremes.proofs.Senses.{Sense, not_itself, still_beaten}
 use Rattle.extremes.proofs.Distances.{distance_fits}
+-- its distance is a value of binary64
+pub use Rattle.extremes.specs.BestSoFar.{BestFits}
 
 -- what a sweep over points holds: nothing, or the witness of two points
 pub data Made : Option Witness → Type 0 where
-  nothing : Made none
-  found : (p q : Point) → Made (some (between_of p q))
-
--- its distance is a value of binary64
-abbrev pub BestFits : Option Witness → Type 0
-BestFits none = Unit {0}
-BestFits (some best) = T (fits binary64 best.d)
+  nothing : Made None
+  found : (p q : Point) → Made (Some (between_of p q))
 
 pub made_fits : {s : Option Witness} → Made s → BestFits s
 made_fits nothing = tt
 made_fits (found p q) = distance_fits p q
 
 module _ (beats : Float → Float → Bool) where
-  chosen : (c : Bool) (a b p q : Point) → Made (some (cond c (between_of a b) (between_of p q)))
+  chosen : (c : Bool) (a b p q : Point) → Made (Some (cond c (between_of a b) (between_of p q)))
   chosen true a b p q = found a b
   chosen false a b p q = found p q
 
@@ -43,13 +41,13 @@ module _ (beats : Float → Float → Bool) where
 
   -- there is a best, and w does not beat it
   abbrev pub Unbeaten : Option Witness → Witness → Type 0
-  Unbeaten none w = ⊥
-  Unbeaten (some best) w = beats best.d w.d ≡ false
+  Unbeaten None w = ⊥
+  Unbeaten (Some best) w = beats best.d w.d ≡ false
 
   pub unbeaten_stays : (s : Option Witness) (w : Witness) → Unbeaten s w → taking beats s w ≡ s
   unfolding taking
-  unbeaten_stays none w u = absurd u
-  unbeaten_stays (some best) w u = ap (λ (c : Bool). some (cond c w best)) u
+  unbeaten_stays None w u = absurd u
+  unbeaten_stays (Some best) w u = ap (λ (c : Bool). Some (cond c w best)) u
 
   pub unbeaten_row : {X : Type 0} (witness : X → Witness) (s : Option Witness) (l : List X) → Each (λ (x : X). Unbeaten s (witness x)) l → foldl (λ t x. taking beats t (witness x)) s l ≡ s
   unbeaten_row witness s [] e = refl
@@ -59,8 +57,8 @@ module _ (beats : Float → Float → Bool) where
 module _ {order beats : Float → Float → Bool} (σ : Sense order beats) where
   pub taking_fits : (s : Option Witness) (w : Witness) → T (fits binary64 w.d) → BestFits s → BestFits (taking beats s w)
   unfolding taking
-  taking_fits none w g f = g
-  taking_fits (some best) w g f = go (beats best.d w.d)
+  taking_fits None w g f = g
+  taking_fits (Some best) w g f = go (beats best.d w.d)
     where
       go : (c : Bool) → T (fits binary64 (cond c w best).d)
       go true = g
@@ -69,8 +67,8 @@ module _ {order beats : Float → Float → Bool} (σ : Sense order beats) where
   -- what was offered does not beat the best, then or later
   unbeaten_new : (s : Option Witness) (w : Witness) → T (fits binary64 w.d) → Unbeaten beats (taking beats s w) w
   unfolding taking
-  unbeaten_new none w g = not_itself σ w.d g
-  unbeaten_new (some best) w g = go (beats best.d w.d) refl
+  unbeaten_new None w g = not_itself σ w.d g
+  unbeaten_new (Some best) w g = go (beats best.d w.d) refl
     where
       go : (c : Bool) → beats best.d w.d ≡ c → beats (cond c w best).d w.d ≡ false
       go true e = not_itself σ w.d g
@@ -78,8 +76,8 @@ module _ {order beats : Float → Float → Bool} (σ : Sense order beats) where
 
   pub unbeaten_later : (s : Option Witness) (w v : Witness) → BestFits s → T (fits binary64 w.d) → T (fits binary64 v.d) → Unbeaten beats s w → Unbeaten beats (taking beats s v) w
   unfolding taking
-  unbeaten_later none w v f g h u = absurd u
-  unbeaten_later (some best) w v f g h u = go (beats best.d v.d) refl
+  unbeaten_later None w v f g h u = absurd u
+  unbeaten_later (Some best) w v f g h u = go (beats best.d v.d) refl
     where
       go : (c : Bool) → beats best.d v.d ≡ c → beats (cond c v best).d w.d ≡ false
       go true e = still_beaten σ best.d v.d w.d f h g e u

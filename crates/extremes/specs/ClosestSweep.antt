@@ -1,7 +1,7 @@
 -- The closest sweep with its skip, over any kind of item, its box and its candidates (document 01, Closest sweep; Rust: closest_inner). Definitions only.
-use Rattle.std.specs.Prelude.{Bool, false, Float}
+use Rattle.std.specs.Prelude.{Bool, false, Float, Some, None}
 use mathlib.Core.List.{List, foldl}
-use Rattle.std.proofs.Math.Option.{Option, none, some}
+use Rattle.std.specs.declared.option.Option.{Option}
 use Rattle.std.specs.Float.{binary64}
 use Rattle.std.specs.Float.Ieee.{mul, le}
 use Rattle.primitives.specs.declared.Witness.{Witness}
@@ -11,8 +11,8 @@ use Rattle.extremes.specs.Sweeps.{skipping, shorter, taking, one_minus_slack}
 
 -- the skip: best exists and least squared gap times (1 - 2^-49) is at least best squared
 unfoldable pub no_closer : Option Witness → Float → Bool
-no_closer none gap = false
-no_closer (some best) gap = le (squared best.d) (mul binary64 gap one_minus_slack)
+no_closer None gap = false
+no_closer (Some best) gap = le (squared best.d) (mul binary64 gap one_minus_slack)
 
 -- the candidates of two items in order: the first is taken, a later one only if strictly closer
 abbrev pub offering : {I : Type 0} → (I → I → List Witness) → I → Option Witness → I → Option Witness

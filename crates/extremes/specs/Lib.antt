@@ -3,5 +3,5 @@ pub mod Extreme
 pub mod Sweeps
 pub mod Farthest
 pub mod ClosestSweep
-pub mod Found
-pub mod InnerBest
+pub mod BestSoFar
+pub mod RootSense

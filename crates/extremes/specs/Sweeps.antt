@@ -1,7 +1,7 @@
 -- What the farthest and the closest sweep share (document 01, Farthest sweep, Closest sweep). Definitions only.
-use Rattle.std.specs.Prelude.{Bool, false, cond, ◌+◌, ◌-◌, ◌^◌, negsuc, Float}
+use Rattle.std.specs.Prelude.{Bool, false, cond, ◌+◌, ◌-◌, ◌^◌, negsuc, Float, Some, None}
 use mathlib.Core.List.{List, [], ◌∷◌, foldl}
-use Rattle.std.proofs.Math.Option.{Option, none, some}
+use Rattle.std.specs.declared.option.Option.{Option}
 use Rattle.std.specs.Float.{fin}
 use Rattle.primitives.specs.declared.Point.{Point}
 use Rattle.primitives.specs.declared.Witness.{Witness}
@@ -18,13 +18,13 @@ skipping skip step s (x ∷ l) = skipping skip step (cond (skip s x) s (step s x
 
 -- both sweeps: the first witness is taken, a later one only if it beats the best
 unfoldable pub taking : (Float → Float → Bool) → Option Witness → Witness → Option Witness
-taking beats none w = some w
-taking beats (some best) w = some (better_of beats best w)
+taking beats None w = Some w
+taking beats (Some best) w = Some (better_of beats best w)
 
 -- "the box of all b" of the farthest sweep: a list's points added in order; none if there is no point
 unfoldable pub box_of_all : List Point → Option Aabb
-box_of_all [] = none
-box_of_all (p ∷ l) = some (foldl add_point (box_of_point p) l)
+box_of_all [] = None
+box_of_all (p ∷ l) = Some (foldl add_point (box_of_point p) l)
 
 -- document 01, Farthest sweep: 1 + 2^-49
 abbrev pub one_plus_slack : Float

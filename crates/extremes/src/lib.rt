@@ -1,80 +1,231 @@
-// The best pair so far and what a sweep found. All pairs, the first extreme pair and the sweeps that skip are definitions (specs/) with their laws (proofs/).
+// The best pair so far. All pairs, the first extreme pair and the sweeps that skip are definitions (specs/) with their laws (proofs/).
 #![tactic(auto)]
 
-ghost use Rattle.std.specs.Prelude.{◌≡◌};
-ghost use Rattle.std.proofs.Math.Option.{none};
-ghost use Rattle.extremes.specs.Found.{answer_of};
-ghost use Rattle.extremes.specs.InnerBest.{best_of, Sound, Keeps, CanWin};
-ghost use Rattle.extremes.specs.Sweeps.{shorter, taking};
+ghost use Rattle.std.specs.Prelude.{◌≡◌, Float, Bool, true, None};
+ghost use Rattle.ieee754.specs.Root.{root_of};
+ghost use Rattle.primitives.specs.declared.Witness.{Witness};
+ghost use Rattle.primitives.specs.declared.UnrootedWitness.{UnrootedWitness};
+ghost use Rattle.primitives.specs.Unrooted.{rooted_of};
+ghost use Rattle.primitives.specs.Witnesses.{better_of};
+ghost use Rattle.extremes.specs.Extreme.{at_most, at_least};
+ghost use Rattle.extremes.specs.Sweeps.{shorter, longer, taking};
+ghost use Rattle.extremes.specs.ClosestSweep.{no_closer};
+ghost use Rattle.extremes.specs.Farthest.{no_longer};
+ghost use Rattle.extremes.specs.BestSoFar.{BestFits, at_zero, at_nan};
+ghost use Rattle.extremes.specs.RootSense.{RootSense, shortest_roots, longest_roots};
 
-use primitives::Witness;
+use primitives::{Point, UnrootedWitness, Witness};
+use std::marker::{Model, PhantomData};
 
-// The extreme pair that a sweep found, if there is a pair.
-#[derive(Clone, Copy)]
-pub enum ExtremePair {
-    Nothing,
-    Found(Witness),
+// Which of two distances is the better one.
+pub trait Sense {
+    // A new distance beats the best's.
+    ghost beats: { Float → Float → Bool };
+
+    // A sum of squares stands so to the best's that its root does not beat the best's root.
+    ghost order: { Float → Float → Bool };
+
+    fn beats(best: f64, new: f64) -> bool
+        ensures { result ≡ beats best new };
+
+    // The better of two witnesses: the new one only if its distance beats the best's.
+    fn better(best: Witness, new: Witness) -> Witness
+        ensures { result ≡ better_of beats best new };
+
+    fn in_order(sum: f64, best: f64) -> bool
+        ensures { result ≡ order sum best };
+
+    ghost laws: { RootSense order beats };
 }
 
-// The best witness so far and the sum of squares that its distance is the root of. While there is none, the distance is below 0 and the sum NaN.
-#[derive(Clone, Copy)]
-pub struct Best {
-    pub sum: f64,
-    pub witness: Witness,
+// The strictly shorter distance is better.
+pub struct Closest;
+
+impl Sense for Closest {
+    ghost beats = { shorter };
+
+    ghost order = { at_least };
+
+    ghost laws = { shortest_roots };
+
+    fn beats(best: f64, new: f64) -> bool {
+        new < best
+    }
+
+    #[tactic(auto, unfolding(primitives::specs::Witnesses::smaller_of))]
+    fn better(best: Witness, new: Witness) -> Witness {
+        best.min(new)
+    }
+
+    fn in_order(sum: f64, best: f64) -> bool {
+        sum >= best
+    }
 }
 
-impl Best {
-    // The closer of the best and w, whose distance is the root of the sum: the first witness is taken, a later one only if strictly less.
-    // Of equal distances the first witness stays, with the lesser sum: another witness of that sum is then not less, and its root not taken.
-    pub fn closer(self, sum: f64, w: Witness) -> Best
-        requires sound { Sound self }
-        requires can_win { CanWin self sum w }
-        ensures { Keeps result (taking shorter (best_of self) w) }
+// The strictly longer distance is better.
+pub struct Farthest;
+
+impl Sense for Farthest {
+    ghost beats = { longer };
+
+    ghost order = { at_most };
+
+    ghost laws = { longest_roots };
+
+    fn beats(best: f64, new: f64) -> bool {
+        new > best
+    }
+
+    fn better(best: Witness, new: Witness) -> Witness {
+        if new.d > best.d { new } else { best }
+    }
+
+    fn in_order(sum: f64, best: f64) -> bool {
+        sum <= best
+    }
+}
+
+// The best witness so far, if there is one, and the sum of squares that its distance is the root of. While there is none, the sum is NaN.
+// A distance below 0 stands for none: an `Option` is copied in pieces, its flag apart from the witness, and small calls are slower.
+#[derive(Drop)]
+pub struct Best<S> {
+    sum: f64,
+    witness: Witness,
+    sense: PhantomData<S>,
+}
+
+impl<S> Model for Best<S> {
+    ghost use Rattle.std.specs.declared.option.Option.{Option};
+    ghost use Rattle.primitives.specs.declared.Witness.{Witness};
+    ghost use Rattle.extremes.specs.BestSoFar.{found_of, Sound};
+
+    ghost Value = { Option Witness };
+
+    ghost view = { λ b. found_of b.witness };
+
+    ghost invariant = { λ b. Sound b.sum (found_of b.witness) };
+}
+
+impl<S: Sense> Best<S> {
+    // No witness yet.
+    pub fn none() -> Self
+        ensures { result ≡ None }
     {
+        let origin = Point {
+            x: 0.0,
+            y: 0.0,
+            z: 0.0,
+        };
+        Best {
+            sum: f64::NAN,
+            witness: Witness {
+                d: -1.0,
+                a: origin,
+                b: origin,
+            },
+            sense: PhantomData,
+        }
+    }
+
+    // The better of the best and the witness of s: the first witness is taken, a later one only if its distance beats the best's.
+    // Of equal distances the first witness stays, with the later sum: another witness of that sum is then excluded, and its root not taken.
+    pub fn offer(self, s: UnrootedWitness) -> Self
+        ensures value { result ≡ taking S.beats self (rooted_of s) }
+        ensures fits { BestFits self }
+    {
+        let sum = s.sum;
+        if S::in_order(sum, self.sum) {
+            return self;
+        }
+        let w = s.rooted();
         let first = self.witness;
         if first.d < 0.0 {
-            return Best { sum, witness: w };
-        }
-        let smaller = first.min(w);
-        if w.d < first.d {
             return Best {
                 sum,
-                witness: smaller,
+                witness: w,
+                sense: PhantomData,
             };
         }
-        let least = if w.d <= first.d { sum } else { self.sum };
+        let kept = if S::beats(first.d, w.d) || w.d == first.d {
+            sum
+        } else {
+            self.sum
+        };
         Best {
-            sum: least,
-            witness: smaller,
+            sum: kept,
+            witness: S::better(first, w),
+            sense: PhantomData,
         }
     }
-}
 
-// No witness yet.
-pub fn none_yet() -> Best
-    ensures { Keeps result none }
-{
-    Best {
-        sum: 0.0 / 0.0,
-        witness: Witness {
-            d: -1.0,
-            ax: 0.0,
-            ay: 0.0,
-            az: 0.0,
-            bx: 0.0,
-            by: 0.0,
-            bz: 0.0,
-        },
+    // Whether no witness whose distance is the root of that sum changes the best. No root is taken.
+    pub fn excludes(&self, sum: f64) -> bool
+        ensures unchanged { result ≡ true → (w : Witness) → w.d ≡ root_of sum → taking S.beats self.now w ≡ self.now }
+        ensures rooted { result ≡ true → (s : UnrootedWitness) → s.sum ≡ sum → self.now ≡ taking S.beats self.now (rooted_of s) }
+        ensures fits { BestFits self.now }
+    {
+        S::in_order(sum, self.sum)
+    }
+
+    // What the sweep found.
+    pub fn witness(self) -> Option<Witness>
+        ensures { result ≡ self }
+    {
+        let w = self.witness;
+        if w.d < 0.0 { None } else { Some(w) }
+    }
+
+    // Whether there is a best of distance 0.
+    #[tactic(auto, using(crate::proofs::BestSoFar::sound_fits), unfolding(crate::specs::BestSoFar::at_zero))]
+    pub fn is_zero(&self) -> bool
+        ensures value { result ≡ at_zero self.now }
+        ensures fits { BestFits self.now }
+    {
+        self.witness.d == 0.0
+    }
+
+    // Whether there is a best whose distance is NaN.
+    #[tactic(auto, using(crate::proofs::BestSoFar::sound_fits), unfolding(crate::specs::BestSoFar::at_nan))]
+    pub fn is_nan(&self) -> bool
+        ensures value { result ≡ at_nan self.now }
+        ensures fits { BestFits self.now }
+    {
+        self.witness.d.is_nan()
     }
 }
 
-// What a sweep found that ended with that best.
-pub fn answered(last: Best) -> ExtremePair
-    ensures { result ≡ answer_of (best_of last) }
-{
-    let w = last.witness;
-    if w.d < 0.0 {
-        return ExtremePair::Nothing;
+// 1 - 2^-49
+const ONE_MINUS_SLACK: f64 = 0.99999999999999822364316059975;
+
+impl Best<Closest> {
+    // Whether a pair whose boxes are that far apart, squared, is no closer than the best.
+    #[tactic(auto, using(crate::proofs::BestSoFar::sound_fits), unfolding(crate::specs::ClosestSweep::no_closer))]
+    pub fn no_closer(&self, gap: f64) -> bool
+        ensures value { result ≡ no_closer self.now gap }
+        ensures fits { BestFits self.now }
+    {
+        let d = self.witness.d;
+        if d < 0.0 {
+            return false;
+        }
+        gap * ONE_MINUS_SLACK >= d * d
     }
-    ExtremePair::Found(w)
+}
+
+// 1 + 2^-49
+const ONE_PLUS_SLACK: f64 = 1.0000000000000017763568394002504646778106689453125;
+
+impl Best<Farthest> {
+    // Whether a pair that is at most that far apart, squared, is no farther apart than the best.
+    #[tactic(auto, using(crate::proofs::BestSoFar::sound_fits))]
+    pub fn no_farther(&self, greatest: f64) -> bool
+        ensures value { result ≡ no_longer self.now greatest }
+        ensures fits { BestFits self.now }
+    {
+        let d = self.witness.d;
+        if d < 0.0 {
+            return false;
+        }
+        greatest * ONE_PLUS_SLACK <= d * d
+    }
 }

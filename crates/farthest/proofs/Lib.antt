@@ -2,9 +2,8 @@
 pub mod Unskipped
 pub mod LongestLine
 pub mod Repeated
-pub mod OfferedPair
 pub mod NanStays
-pub mod Appended
-pub mod PointTurns
-pub mod ClassTurns
 pub mod VerticesOnce
+pub mod RunTurns
+pub mod Folds
+pub mod Visits

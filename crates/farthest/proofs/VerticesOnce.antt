@@ -1,17 +1,18 @@
 -- Walking each vertex of a line once, where the definition has both ends of each segment, changes no answer. Assumes nothing.
 use mathlib.Core.Path.{◌≡◌, refl, sym, ap, ◌∙◌}
 use mathlib.Core.Bool.{Bool, true, false, cond, ◌&&◌}
-use mathlib.Core.List.{List, [], ◌∷◌, flatten}
-use mathlib.Core.Option.{Option, none, some}
+use mathlib.Core.List.{List, [], ◌∷◌, ◌++◌, flatten, append_assoc}
+use Rattle.std.specs.Prelude.{Some, None}
+use Rattle.std.specs.declared.option.Option.{Option}
 use Prim.Native.Nat.{ℕ, suc}
-use lib.Dec.{eqb, ltb}
+use lib.Dec.{leb}
 use lib.ListN.{length}
 use lib.Ieee.{is_nan}
 use native.Mathlib.Omega.{arith}
-use borrow.Author.Tests.{eqb-true, le-ltb}
+use borrow.Author.Tests.{le-leb}
 use Rattle.coords.specs.Parts.{Run, run, is_point, is_line, is_face, segments_by, of_kind, segment_ends, vertices_of}
-use Rattle.parts.specs.Classes.{run_class}
-use Rattle.parts.proofs.Classes.{class_points, class_lines, class_faces}
+use Rattle.parts.specs.declared.Class.{Class}
+use Rattle.parts.specs.declared.Class.TheVariants.{Points, Lines, Faces}
 use Rattle.primitives.specs.declared.Point.{Point}
 use Rattle.primitives.specs.declared.Witness.{Witness}
 use Rattle.primitives.specs.declared.Aabb.{Aabb}
@@ -21,31 +22,22 @@ use Rattle.extremes.proofs.Repeats.{Repeats, done, once, again, no_repeats, repe
 use Rattle.extremes.proofs.Taking.{Made, nothing}
 use Rattle.extremes.proofs.Skipping.{skipping_stays}
 use Rattle.extremes.specs.Farthest.{farthest_from, farthest_within, farthest_of}
-use Rattle.farthest.specs.Inner.{vertex_class, class_vertices, vertices_once, empty_box, box_with, swept, swept_once}
+use Rattle.farthest.specs.Inner.{has_vertices, class_vertices, vertices_once, class_runs, runs_once, empty_box, box_with, swept, swept_once}
 use Rattle.farthest.proofs.Repeated.{sweep_repeats}
 
 -- ---- classes
 
-line_class : run_class 2 ≡ 2
-unfolding run_class
-line_class = refl
-
--- a class other than lines has the runs of its kinds, whatever their count
-other_class : (kind n class : ℕ) → eqb 0 class ≡ false → eqb 2 class ≡ false → eqb (vertex_class kind n) class ≡ eqb (run_class kind) class
-unfolding vertex_class
-other_class kind n class z l = go (is_line kind) refl (ltb n 2)
-  where
-    go : (p : Bool) → is_line kind ≡ p → (q : Bool) → eqb (cond (p && q) 0 (run_class kind)) class ≡ eqb (run_class kind) class
-    go true e true = z ∙ sym (ap (λ (k : ℕ). eqb k class) (ap run_class (eqb-true kind 2 e) ∙ line_class) ∙ l)
-    go true e false = refl
-    go false e q = refl
-
 module _ {A : Type 0} where
   -- points and faces, each by its class
-  others_once : (test : ℕ → Bool) (class : ℕ) → eqb 0 class ≡ false → eqb 2 class ≡ false → ((kind : ℕ) → eqb (run_class kind) class ≡ test kind) → (rs : List (Run A)) → of_kind test (λ cs. cs) rs ≡ class_vertices class rs
-  unfolding of_kind class_vertices
-  others_once test class z l is [] = refl
-  others_once test class z l is (run kind cs ∷ rs) = rw (other_class kind (length cs) class z l, is kind, others_once test class z l is rs)
+  points_once : (rs : List (Run A)) → of_kind is_point (λ cs. cs) rs ≡ class_vertices Points rs
+  unfolding of_kind class_vertices has_vertices
+  points_once [] = refl
+  points_once (run kind cs ∷ rs) = rw (points_once rs)
+
+  faces_once : (rs : List (Run A)) → of_kind is_face (λ cs. cs) rs ≡ class_vertices Faces rs
+  unfolding of_kind class_vertices has_vertices
+  faces_once [] = refl
+  faces_once (run kind cs ∷ rs) = rw (faces_once rs)
 
   ends_repeat : (a b : A) (cs : List A) → Repeats (segment_ends (a ∷ b ∷ cs)) (a ∷ b ∷ cs)
   unfolding segment_ends segments_by flatten
@@ -53,20 +45,21 @@ module _ {A : Type 0} where
   ends_repeat a b (d ∷ cs) = once (again (ends_repeat b d cs))
 
   -- a line's segment ends are its coordinates, repeated; one coordinate gives none
-  line_repeats : (cs : List A) → Repeats (segment_ends cs) (cond (eqb (cond (ltb (length cs) 2) 0 2) 2) cs [])
+  line_repeats : (cs : List A) → Repeats (segment_ends cs) (cond (leb 2 (length cs)) cs [])
   unfolding segment_ends segments_by flatten
   line_repeats [] = done
   line_repeats (a ∷ []) = done
-  line_repeats (a ∷ b ∷ cs) = rw (le-ltb (suc (suc (length cs))) 2 (omega arith)) (ends_repeat a b cs)
+  line_repeats (a ∷ b ∷ cs) = rw (le-leb 2 (suc (suc (length cs))) (omega arith)) (ends_repeat a b cs)
 
-  run_repeats : (kind : ℕ) (cs : List A) → Repeats (cond (is_line kind) (segment_ends cs) []) (cond (eqb (vertex_class kind (length cs)) 2) cs [])
-  run_repeats kind cs = go (is_line kind) refl
+  run_repeats : (kind : ℕ) (cs : List A) → Repeats (cond (is_line kind) (segment_ends cs) []) (cond (has_vertices Lines kind (length cs)) cs [])
+  unfolding has_vertices
+  run_repeats kind cs = go (is_line kind)
     where
-      go : (b : Bool) → is_line kind ≡ b → Repeats (cond b (segment_ends cs) []) (cond (eqb (vertex_class kind (length cs)) 2) cs [])
-      go true e = unfold vertex_class in rw (eqb-true kind 2 e, line_class) (line_repeats cs)
-      go false e = unfold vertex_class in rw (e, class_lines kind, e) done
+      go : (b : Bool) → Repeats (cond b (segment_ends cs) []) (cond (b && leb 2 (length cs)) cs [])
+      go true = line_repeats cs
+      go false = done
 
-  lines_once : (rs : List (Run A)) → Repeats (of_kind is_line segment_ends rs) (class_vertices 2 rs)
+  lines_once : (rs : List (Run A)) → Repeats (of_kind is_line segment_ends rs) (class_vertices Lines rs)
   unfolding of_kind class_vertices
   lines_once [] = done
   lines_once (run kind cs ∷ rs) = repeats_append (run_repeats kind cs) (lines_once rs)
@@ -74,7 +67,28 @@ module _ {A : Type 0} where
   -- the vertices of the definition are those that are walked, repeated in their place
   pub vertices_once_lem : (rs : List (Run A)) → Repeats (vertices_of rs) (vertices_once rs)
   unfolding vertices_of vertices_once
-  vertices_once_lem rs = rw (others_once is_point 1 refl refl class_points rs, others_once is_face 3 refl refl class_faces rs) (repeats_append (no_repeats (class_vertices 1 rs)) (repeats_append (lines_once rs) (no_repeats (class_vertices 3 rs))))
+  vertices_once_lem rs = rw (points_once rs, faces_once rs) (repeats_append (no_repeats (class_vertices Points rs)) (repeats_append (lines_once rs) (no_repeats (class_vertices Faces rs))))
+
+  -- ---- run by run
+
+  flatten_append : (l m : List (List A)) → flatten (l ++ m) ≡ flatten l ++ flatten m
+  unfolding flatten
+  flatten_append [] m = refl
+  flatten_append (x ∷ l) m = rw (flatten_append l m) (sym (append_assoc x (flatten l) (flatten m)))
+
+  class_by_runs : (class : Class) (rs : List (Run A)) → flatten (class_runs class rs) ≡ class_vertices class rs
+  unfolding class_runs class_vertices flatten
+  class_by_runs class [] = refl
+  class_by_runs class (run kind cs ∷ rs) = go (has_vertices class kind (length cs)) (class_by_runs class rs)
+    where
+      go : (b : Bool) → flatten (class_runs class rs) ≡ class_vertices class rs → flatten (cond b (cs ∷ class_runs class rs) (class_runs class rs)) ≡ cond b cs [] ++ class_vertices class rs
+      go true e = rw e
+      go false e = e
+
+  -- the runs that are walked have those vertices
+  pub once_by_runs : (rs : List (Run A)) → flatten (runs_once rs) ≡ vertices_once rs
+  unfolding runs_once vertices_once
+  once_by_runs rs = rw (flatten_append (class_runs Points rs) (class_runs Lines rs ++ class_runs Faces rs), flatten_append (class_runs Lines rs) (class_runs Faces rs), class_by_runs Points rs, class_by_runs Lines rs, class_by_runs Faces rs)
 
 -- ---- the box of NaNs
 
@@ -84,8 +98,8 @@ first_point p = refl
 
 -- the box of NaNs where there is none
 or_empty : Option Aabb → Aabb
-or_empty none = empty_box
-or_empty (some box) = box
+or_empty None = empty_box
+or_empty (Some box) = box
 
 box_of_all_lem : (ps : List Point) → box_with empty_box ps ≡ or_empty (box_of_all ps)
 unfolding box_with box_of_all or_empty
@@ -102,16 +116,21 @@ pub swept_once_lem : (start : Option Witness) → Made start → (ls rs : List (
 unfolding swept_once swept
 swept_once_lem start m ls rs = rw (box_once (vertices_once_lem rs)) (sweep_repeats (box_with empty_box (vertices_once rs)) (vertices_once_lem ls) (vertices_once_lem rs) start m)
 
-nothing_found : (box : Aabb) (ls : List Point) → swept box [] none ls ≡ none
+nothing_found : (box : Aabb) (ls : List Point) → swept box [] None ls ≡ None
 unfolding swept farthest_from
-nothing_found box ls = skipping_stays _ _ none (λ a. refl) ls
+nothing_found box ls = skipping_stays _ _ None (λ a. refl) ls
 
 -- the definition's sweep starts with the box of NaNs as well
-from_empty_box : (ls rs : List Point) → farthest_of ls rs ≡ swept (box_with empty_box rs) rs none ls
+from_empty_box : (ls rs : List Point) → farthest_of ls rs ≡ swept (box_with empty_box rs) rs None ls
 unfolding farthest_of farthest_within box_of_all box_with
 from_empty_box ls [] = sym (nothing_found empty_box ls)
 from_empty_box ls (p ∷ rs) = unfold swept in rw (first_point p)
 
 -- from no pair on, it is the definition's
-pub farthest_once : (ls rs : List (Run Point)) → farthest_of (vertices_of ls) (vertices_of rs) ≡ swept_once none ls rs
-farthest_once ls rs = from_empty_box (vertices_of ls) (vertices_of rs) ∙ swept_once_lem none nothing ls rs
+pub farthest_once : (ls rs : List (Run Point)) → farthest_of (vertices_of ls) (vertices_of rs) ≡ swept_once None ls rs
+farthest_once ls rs = from_empty_box (vertices_of ls) (vertices_of rs) ∙ swept_once_lem None nothing ls rs
+
+-- and so is the sweep of the runs that are walked
+pub farthest_by_runs : (ls rs : List (Run Point)) → farthest_of (vertices_of ls) (vertices_of rs) ≡ swept (box_with empty_box (flatten (runs_once rs))) (flatten (runs_once rs)) None (flatten (runs_once ls))
+unfolding swept_once
+farthest_by_runs ls rs = rw (once_by_runs ls, once_by_runs rs) (farthest_once ls rs)

@@ -1,55 +1,49 @@
 -- The vertices in the order in which they are walked, and the sweep over them. Serves inner contracts. Definitions only.
-use Rattle.std.specs.Prelude.{ℕ, ◌≡◌, Bool, false, cond, ◌&&◌, ◌||◌, ltb, eqb, length}
+use Rattle.std.specs.Prelude.{ℕ, Bool, cond, ◌&&◌, leb, length}
 use mathlib.Core.List.{List, [], ◌∷◌, ◌++◌, foldl}
-use Rattle.std.proofs.Math.Option.{Option}
+use Rattle.std.specs.declared.option.Option.{Option}
 use Rattle.std.specs.Float.{nan}
-use Rattle.coords.specs.Parts.{Run, run, is_line}
-use Rattle.parts.specs.Stored.{kind_at, count_at}
-use Rattle.parts.specs.Classes.{run_class}
+use Rattle.coords.specs.Parts.{Run, run, is_point, is_line, is_face}
+use Rattle.parts.specs.declared.Class.{Class}
+use Rattle.parts.specs.declared.Class.TheVariants.{Points, Lines, Faces}
 use Rattle.primitives.specs.declared.Point.{Point}
 use Rattle.primitives.specs.declared.Witness.{Witness}
 use Rattle.primitives.specs.declared.Aabb.{Aabb}
 use Rattle.primitives.specs.Boxes.{add_point}
 use Rattle.extremes.specs.Sweeps.{skipping}
-use Rattle.farthest.specs.declared.Classes.{Classes}
 use Rattle.extremes.specs.Farthest.{no_farther, farthest_from}
 
 -- ---- vertices, each once
 
--- the class in which a run's coordinates are vertices; 0 for a line of one coordinate
-unfoldable pub vertex_class : ℕ → ℕ → ℕ
-vertex_class kind count = cond (is_line kind && ltb count 2) 0 (run_class kind)
-
--- the same of run r of a table
-unfoldable pub class_at : List ℕ → ℕ → ℕ
-class_at table r = vertex_class (kind_at table r) (count_at table r)
+-- whether a run's coordinates are vertices of a class; a line of one coordinate has none
+unfoldable pub has_vertices : Class → ℕ → ℕ → Bool
+has_vertices Points kind count = is_point kind
+has_vertices Lines kind count = is_line kind && leb 2 count
+has_vertices Faces kind count = is_face kind
 
 -- the vertices of one class, those of a line once each
-unfoldable pub class_vertices : {A : Type 0} → ℕ → List (Run A) → List A
+unfoldable pub class_vertices : {A : Type 0} → Class → List (Run A) → List A
 class_vertices class [] = []
-class_vertices class (run kind cs ∷ rs) = cond (eqb (vertex_class kind (length cs)) class) cs [] ++ class_vertices class rs
+class_vertices class (run kind cs ∷ rs) = cond (has_vertices class kind (length cs)) cs [] ++ class_vertices class rs
 
 -- points, then lines, then faces
 unfoldable pub vertices_once : {A : Type 0} → List (Run A) → List A
-vertices_once rs = class_vertices 1 rs ++ (class_vertices 2 rs ++ class_vertices 3 rs)
+vertices_once rs = class_vertices Points rs ++ (class_vertices Lines rs ++ class_vertices Faces rs)
 
--- whether a table has a run of a class
-unfoldable pub occurs : ℕ → List ℕ → Bool
-occurs class [] = false
-occurs class (kind ∷ []) = false
-occurs class (kind ∷ count ∷ table) = eqb (vertex_class kind count) class || occurs class table
+-- the same run by run: the runs of one class
+unfoldable pub class_runs : {A : Type 0} → Class → List (Run A) → List (List A)
+class_runs class [] = []
+class_runs class (run kind cs ∷ rs) = cond (has_vertices class kind (length cs)) (cs ∷ class_runs class rs) (class_runs class rs)
 
--- which classes a table has
-pub record Occurs (has : Classes) (table : List ℕ) : Type 0 where
-  pub points : has.points ≡ occurs 1 table
-  pub lines : has.lines ≡ occurs 2 table
-  pub faces : has.faces ≡ occurs 3 table
+-- and those of points, then lines, then faces
+unfoldable pub runs_once : {A : Type 0} → List (Run A) → List (List A)
+runs_once rs = class_runs Points rs ++ (class_runs Lines rs ++ class_runs Faces rs)
 
 -- ---- boxes
 
 -- the box of no point: a NaN is dropped by minimum and maximum
 unfoldable pub empty_box : Aabb
-empty_box = record { lo_x = nan; lo_y = nan; lo_z = nan; hi_x = nan; hi_y = nan; hi_z = nan }
+empty_box = let p : Point = record { x = nan; y = nan; z = nan } in record { lo = p; hi = p }
 
 -- a box with points added in order (document 01, Witness and boxes)
 unfoldable pub box_with : Aabb → List Point → Aabb

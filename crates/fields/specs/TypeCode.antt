@@ -1,5 +1,7 @@
 -- The type of a WKB geometry, a u32 (document 01, Walk): v, its low 16 bits, and EWKB's flags above them. Definitions only.
 use Rattle.std.specs.Prelude.{ℕ, ◌/◌, ◌%◌, Bool, eqb}
+use Rattle.fields.specs.declared.Flag.{Flag}
+use Rattle.fields.specs.declared.Flag.TheVariants.{Z, M, Srid}
 
 -- v
 abbrev pub low_bits_of : ℕ → ℕ
@@ -26,3 +28,9 @@ m_flag = 0x4000_0000
 
 abbrev pub srid_flag : ℕ
 srid_flag = 0x2000_0000
+
+-- the power of 2 that a flag is
+abbrev pub mask_of : Flag → ℕ
+mask_of Z = z_flag
+mask_of M = m_flag
+mask_of Srid = srid_flag

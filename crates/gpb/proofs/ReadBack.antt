@@ -10,25 +10,25 @@ use lib.Ieee.Bits.{to_bits-lt}
 use borrow.Author.Tests.{le-ltb}
 use lib.ListN.{length, take}
 use lib.Seq.{take_at}
+use Rattle.std.specs.Prelude.{Ok}
 use Rattle.refusals.specs.Checks.{first_of}
 use Rattle.fields.specs.Fields.{u32_at, u64_at, bytes_of_u32, bytes_of_u64}
 use Rattle.fields.proofs.ReadBack.{four_bytes_back, eight_bytes_back}
-use Rattle.gpb.specs.Header.{is_gp, doubles_of, geometry_start, top_type, srid_of, has_z, under_eight_bytes, version_not_zero, extended_bit, reserved_bits, indicator_above_four, ends_in_envelope, top_header_cut, byte_order_above_one, lacks_z, gp_checks, top_checks, header_checks, header_checks_3d, refused_or, header_of_3d}
-use Rattle.gpb.specs.declared.Header.TheVariants as header
+use Rattle.gpb.specs.Header.{is_gp, doubles_of, geometry_start, top_type, srid_of, has_z, under_eight_bytes, version_not_zero, extended_bit, reserved_bits, indicator_above_four, ends_in_envelope, top_header_cut, byte_order_above_one, lacks_z, gp_checks, top_checks, header_checks, header_checks_3d, header_of_3d}
 use Rattle.gpb.specs.Written.{line_bytes, header_bytes, ordinate_bytes, coordinate_bytes, point_blob, line_blob}
 
 -- the header of a blob that starts as it is written: start 8, its type and SRID
-pub header_back : (srid code : ℕ) (rest : List ℕ) → srid < 2 ^ 32 → code < 2 ^ 32 → has_z code ≡ true → header_of_3d (header_bytes srid code ++ rest) ≡ header.Found 8 code srid
-unfolding header_of_3d refused_or header_checks_3d header_checks gp_checks top_checks first_of under_eight_bytes version_not_zero extended_bit reserved_bits indicator_above_four ends_in_envelope top_header_cut byte_order_above_one lacks_z srid_of top_type geometry_start doubles_of is_gp u32_at header_bytes bytes_of_u32
+pub header_back : (srid code : ℕ) (rest : List ℕ) → srid < 2 ^ 32 → code < 2 ^ 32 → has_z code ≡ true → header_of_3d (header_bytes srid code ++ rest) ≡ Ok (record { at = 8; code = code; srid = srid })
+unfolding header_of_3d header_checks_3d header_checks gp_checks top_checks first_of under_eight_bytes version_not_zero extended_bit reserved_bits indicator_above_four ends_in_envelope top_header_cut byte_order_above_one lacks_z srid_of top_type geometry_start doubles_of is_gp u32_at header_bytes bytes_of_u32
 header_back srid code rest hs hc z =
     let n = length (header_bytes srid code ++ rest) in
     simp (le-ltb n 8 (omega arith), le-ltb n 13 (omega arith), four_bytes_back code hc, four_bytes_back srid hs, z)
 
-pub point_header_back : (srid : ℕ) (x y z : Float) (rest : List ℕ) → srid < 2 ^ 32 → header_of_3d (point_blob srid x y z ++ rest) ≡ header.Found 8 1001 srid
+pub point_header_back : (srid : ℕ) (x y z : Float) (rest : List ℕ) → srid < 2 ^ 32 → header_of_3d (point_blob srid x y z ++ rest) ≡ Ok (record { at = 8; code = 1001; srid = srid })
 unfolding point_blob has_z
 point_header_back srid x y z rest h = rw append_assoc (header_back srid 1001 (coordinate_bytes x y z ++ rest) h (lit< tt) refl)
 
-pub line_header_back : (srid : ℕ) (ax ay az bx by bz : Float) (rest : List ℕ) → srid < 2 ^ 32 → header_of_3d (line_blob srid ax ay az bx by bz ++ rest) ≡ header.Found 8 1002 srid
+pub line_header_back : (srid : ℕ) (ax ay az bx by bz : Float) (rest : List ℕ) → srid < 2 ^ 32 → header_of_3d (line_blob srid ax ay az bx by bz ++ rest) ≡ Ok (record { at = 8; code = 1002; srid = srid })
 unfolding line_blob has_z
 line_header_back srid ax ay az bx by bz rest h =
     simp append_assoc (header_back srid 1002 (bytes_of_u32 2 ++ (coordinate_bytes ax ay az ++ (coordinate_bytes bx by bz ++ rest))) h (lit< tt) refl)

@@ -1,11 +1,11 @@
 -- A turn of the digit loop, and its end, on natural numbers. Assumes nothing.
 use mathlib.Core.Logic.{◌⊎◌, inl, inr}
-use mathlib.Core.Path.{◌≡◌, refl, sym, ap, ◌∙◌, subst}
-use Prim.Native.Nat.{ℕ, zero, suc, ◌+◌, ◌-◌, ◌*◌, ◌/◌, ◌%◌, ◌^◌, ◌≤◌, ◌<◌}
+use mathlib.Core.Path.{◌≡◌, sym, ap, ◌∙◌, subst}
+use Prim.Native.Nat.{ℕ, ◌+◌, ◌-◌, ◌*◌, ◌/◌, ◌%◌, ◌^◌, ◌≤◌, ◌<◌}
 use native.Mathlib.Decide.{dec_le}
-use native.Mathlib.Nat.{mul_comm, mul_assoc, mul_right_comm, mul-mul-mul_comm, mul-div_cancel, pow-suc, eq-or-lt_of_le, lt_of_lt_of_le, lt_of_not-le}
+use native.Mathlib.Nat.{mul_comm, mul_assoc, mul_right_comm, mul-mul-mul_comm, mul-div_cancel, eq-or-lt_of_le, lt_of_lt_of_le, lt_of_not-le}
 use native.Mathlib.Omega.{arith}
-use lib.Pow.{pow-add, pow_mono, pow_pos, shl_lt}
+use lib.Pow.{pow-add, pow_mono, pow_pos, shl_lt, shl_exact}
 use Rattle.ieee754.specs.InnerRoot.{RootDigits, first_digits, DigitTurns}
 use Rattle.ieee754.proofs.Arithmetic.{times4, sq_odd, sq_suc, sq_mono}
 
@@ -17,9 +17,6 @@ pub record DigitsSoFar (m q rest x i : ℕ) : Type 0 where
   pub close : rest ≤ 2 * q
   pub window : x < 2 ^ 54
   pub adds : (q * q + rest) * 2 ^ 54 + x ≡ m * 2 ^ (2 * i)
-
-pub digits_start : (m : ℕ) → m < 2 ^ 54 → DigitsSoFar m 0 0 m 0
-digits_start m h = record { turns = omega arith; low = omega arith; small = omega arith; close = omega arith; window = h; adds = omega arith }
 
 pow4 : (m i : ℕ) → m * 2 ^ (2 * (i + 1)) ≡ 4 * (m * 2 ^ (2 * i))
 pow4 m i = ap (λ (z : ℕ). m * 2 ^ z) (two i) ∙ ap (λ (z : ℕ). m * z) (pow-add 2 (2 * i) 2) ∙ sym (mul_assoc m (2 ^ (2 * i)) 4) ∙ mul_comm (m * 2 ^ (2 * i)) 4
@@ -67,11 +64,8 @@ one_digit m q rest x i h t l =
       adds = omega (arith, sq_odd q, pow4 m i, t.adds);
     }
 
-digits_finish : (m q rest x i : ℕ) → 53 ≤ i → DigitsSoFar m q rest x i → RootDigits m q rest
-digits_finish m q rest x i h t =
-    let e : i ≡ 53 = omega (arith, t.turns) in
-    let a : (q * q + rest) * 2 ^ 54 + x ≡ m * 2 ^ 106 = t.adds ∙ ap (λ (z : ℕ). m * 2 ^ (2 * z)) e in
-    record { adds = omega (arith, a, t.window); close = t.close; small = t.small }
+digits_finish : (m q rest x : ℕ) → DigitsSoFar m q rest x 53 → RootDigits m q rest
+digits_finish m q rest x t = record { adds = omega (arith, t.adds, t.window); close = t.close; small = t.small }
 
 -- ---- when the loop ends
 
@@ -79,18 +73,10 @@ digits_finish m q rest x i h t =
 abbrev NoneBelow : ℕ → ℕ → Type 0
 NoneBelow m i = (k : ℕ) → k < i → (p : ℕ) → p * p * 2 ^ 54 ≡ m * 2 ^ (2 * k) → ⊥
 
--- what holds while so many digits are left to find
-pub record Searching (m q rest x left unit : ℕ) : Type 0 where
-  pub most : left ≤ 53
-  pub power : unit ≡ 2 ^ left
-  pub found : DigitsSoFar m q rest x (53 - left)
-  pub none_before : NoneBelow m (53 - left)
-
-pub search_start : (m : ℕ) → m < 2 ^ 54 → Searching m 0 0 m 53 (2 ^ 53)
-search_start m h = record { most = omega arith; power = refl; found = digits_start m h; none_before = λ k l p e. nothing k l }
-  where
-    nothing : (k : ℕ) → k < 0 → ⊥
-    nothing k l = omega arith
+-- what holds after i turns that did not end the loop
+pub record Searching (m q rest x i : ℕ) : Type 0 where
+  pub found : DigitsSoFar m q rest x i
+  pub none_before : NoneBelow m i
 
 -- a square that lies within the remainder is the whole root's, and nothing remains
 pub no_remainder : (p q rest : ℕ) → p * p ≡ q * q + rest → rest ≤ 2 * q → rest ≡ 0
@@ -121,25 +107,8 @@ more_none m i n h k l = go (eq-or-lt_of_le (below k i l))
     go (inr b) p f = n k b p f
 
 -- a turn: something remains, and there is one digit more
-pub search_again : (m q rest x left unit q' rest' x' : ℕ) → 0 < left → Searching m q rest x left unit → (rest ≡ 0 → x ≡ 0 → ⊥)
-    → DigitsSoFar m q' rest' x' (53 - left + 1) → Searching m q' rest' x' (left - 1) (unit / 2)
-search_again m q rest x zero unit q' rest' x' h s n t = absurd (never h)
-  where
-    never : 0 < 0 → ⊥
-    never h = omega arith
-search_again m q rest x (suc l) unit q' rest' x' h s n t =
-    record {
-      most = omega (arith, s.most);
-      power = ap (λ (z : ℕ). z / 2) (s.power ∙ pow-suc 2 l) ∙ mul-div_cancel (2 ^ l) (omega arith) ∙ ap (λ (z : ℕ). 2 ^ z) (less l);
-      found = subst (λ (z : ℕ). DigitsSoFar m q' rest' x' z) (next l s.most) t;
-      none_before = subst (NoneBelow m) (next l s.most) (more_none m (53 - suc l) s.none_before (remains m q rest x (53 - suc l) s.found n));
-    }
-  where
-    less : (l : ℕ) → l ≡ suc l - 1
-    less l = omega arith
-
-    next : (l : ℕ) → suc l ≤ 53 → 53 - suc l + 1 ≡ 53 - (suc l - 1)
-    next l h = omega arith
+pub search_again : (m q rest x i q' rest' x' : ℕ) → Searching m q rest x i → (rest ≡ 0 → x ≡ 0 → ⊥) → DigitsSoFar m q' rest' x' (i + 1) → Searching m q' rest' x' (i + 1)
+search_again m q rest x i q' rest' x' s n t = record { found = t; none_before = more_none m i s.none_before (remains m q rest x i s.found n) }
 
 -- ---- at the end
 
@@ -171,30 +140,33 @@ unscaled m p j k h e = omega (arith, both)
 none_enough : (m digits t : ℕ) → t ≤ 53 → NoneBelow m t → (k : ℕ) → k < t → first_digits k digits * first_digits k digits ≡ m * 2 ^ 52 → ⊥
 none_enough m digits t h n k l e = n k l (digits / 2 ^ (53 - k)) (unscaled m (digits / 2 ^ (53 - k)) (53 - k) k (omega arith) e)
 
--- q and the power of two make 53 digits
-pub search_small : (m q rest x left unit : ℕ) → Searching m q rest x left unit → q * unit < 2 ^ 53
-search_small m q rest x left unit s = subst (λ (y : ℕ). q * y < 2 ^ 53) (sym s.power) (lt_of_lt_of_le (shl_lt (53 - left) left s.found.low) (pow_mono {i = 53 - left + left} {j = 53} (omega (arith, s.most))))
+-- q with zeros for the digits that are left, as the code shifts it
+abbrev pub filled : ℕ → ℕ → ℕ
+filled q i = q * 2 ^ (53 - i) % 2 ^ 64
 
-pub search_early : (m q rest x left unit : ℕ) → 0 < left → Searching m q rest x left unit → rest ≡ 0 → x ≡ 0 → RootDigits m (q * unit) 0 × DigitTurns m (q * unit) (53 - left)
-search_early m q rest x left unit h s r z =
-    let i = 53 - left in
-    let whole : left + i ≡ 53 = omega (arith, s.most) in
-    let same : q * unit ≡ q * 2 ^ left = ap (λ (y : ℕ). q * y) s.power in
+filled_is : (m q rest x i : ℕ) → Searching m q rest x i → filled q i ≡ q * 2 ^ (53 - i)
+filled_is m q rest x i s = shl_exact i (53 - i) 64 s.found.low (omega (arith, s.found.turns))
+
+filled_small : (m q rest x i : ℕ) → Searching m q rest x i → q * 2 ^ (53 - i) < 2 ^ 53
+filled_small m q rest x i s = lt_of_lt_of_le (shl_lt i (53 - i) s.found.low) (pow_mono {i = i + (53 - i)} {j = 53} (omega (arith, s.found.turns)))
+
+pub search_early : (m q rest x i : ℕ) → Searching m q rest x i → rest ≡ 0 → x ≡ 0 → RootDigits m (filled q i) 0 × DigitTurns m (filled q i) i
+search_early m q rest x i s r z =
+    let left = 53 - i in
+    let whole : left + i ≡ 53 = omega (arith, s.found.turns) in
+    let same : filled q i ≡ q * 2 ^ left = filled_is m q rest x i s in
     let e : q * q * 2 ^ 54 ≡ m * 2 ^ (2 * i) = omega (arith, s.found.adds) in
-    let f : q * unit * (q * unit) ≡ m * 2 ^ 52 = ap (λ (y : ℕ). y * y) same ∙ scaled m q left i whole e in
-    let first : first_digits i (q * unit) ≡ q * unit = ap (λ (y : ℕ). y / 2 ^ (53 - i) * 2 ^ (53 - i)) same ∙ ap (λ (y : ℕ). q * 2 ^ left / 2 ^ y * 2 ^ y) (back left s.most) ∙ ap (λ (y : ℕ). y * 2 ^ left) (mul-div_cancel q (pow_pos left)) ∙ sym same in (
-      record { adds = omega (arith, f); close = omega arith; small = search_small m q rest x left unit s },
-      record { most = omega arith; exact = λ l. ap (λ (y : ℕ). y * y) first ∙ f; fewest = none_enough m (q * unit) i (omega arith) s.none_before },
+    let f : filled q i * filled q i ≡ m * 2 ^ 52 = ap (λ (y : ℕ). y * y) same ∙ scaled m q left i whole e in
+    let first : first_digits i (filled q i) ≡ filled q i = ap (λ (y : ℕ). y / 2 ^ left * 2 ^ left) same ∙ ap (λ (y : ℕ). y * 2 ^ left) (mul-div_cancel q (pow_pos left)) ∙ sym same in (
+      record { adds = omega (arith, f); close = omega arith; small = subst (λ (y : ℕ). y < 2 ^ 53) (sym same) (filled_small m q rest x i s) },
+      record { most = s.found.turns; exact = λ l. ap (λ (y : ℕ). y * y) first ∙ f; fewest = none_enough m (filled q i) i s.found.turns s.none_before },
     )
-  where
-    back : (left : ℕ) → left ≤ 53 → 53 - (53 - left) ≡ left
-    back left h = omega arith
 
-pub search_late : (m q rest x left unit : ℕ) → left ≤ 0 → Searching m q rest x left unit → RootDigits m q rest × DigitTurns m q 53
-search_late m q rest x left unit h s =
-    let e : 53 - left ≡ 53 = omega arith in (
-      digits_finish m q rest x (53 - left) (omega arith) s.found,
-      record { most = omega arith; exact = λ l. absurd (never l); fewest = none_enough m q 53 (omega arith) (subst (NoneBelow m) e s.none_before) },
+pub search_late : (m q rest x i : ℕ) → i ≡ 53 → Searching m q rest x i → RootDigits m q rest × DigitTurns m q 53
+search_late m q rest x i e s =
+    let last : Searching m q rest x 53 = subst (Searching m q rest x) e s in (
+      digits_finish m q rest x last.found,
+      record { most = omega arith; exact = λ l. absurd (never l); fewest = none_enough m q 53 (omega arith) last.none_before },
     )
   where
     never : 53 < 53 → ⊥

@@ -2,12 +2,13 @@
 use mathlib.Core.Bool.{Bool, true, false, not, false≢true}
 use mathlib.Core.Path.{ap, refl, sym, ◌∙◌, subst, ◌≡◌}
 use Prim.Native.Nat.{ℕ, ◌-◌, ◌+◌, ◌<◌, ◌≤◌}
-use native.Mathlib.Nat.{lt_trans, le_refl, le_trans, le_of_lt, not-le_of_lt}
+use native.Mathlib.Nat.{not-le_of_lt}
 use native.Mathlib.Omega.{arith}
-use lib.Dec.{lt→ltb, ltb, T, leb→le, le→leb, ltb→lt, nltb→le}
+use lib.Dec.{ltb, T, leb→le, le→leb, ltb→lt, nltb→le}
 use lib.Ieee.{fits, Float, nan, inf, fin, binary64, lt, le, is_nan}
 use lib.Ieee.Bits.{is_true, is_false}
 use lib.IntN.{ℤ}
+use Rattle.std.proofs.lemmas.Float.{le_refl, le_of_lt, le_left, le_right, le_trans, lt_trans, T_from_true}
 use Rattle.ieee754.specs.Root.{units_of}
 use Rattle.ieee754.proofs.FloatRanks.{rank_of, lt_by_rank, le_by_rank}
 use Rattle.ieee754.proofs.FloatUnits.{units_of_zero}
@@ -29,33 +30,28 @@ le_nan nan h = h
 le_nan (inf s) h = h
 le_nan (fin s m e) h = h
 
+-- std's laws, for those that know of their floats that they fit
 pub le_number_left : (x y : Float) → T (le x y) → T (not (is_nan x))
-unfolding is_nan
-le_number_left nan y h = absurd (nan_le y h)
-le_number_left (inf s) y h = tt
-le_number_left (fin s m e) y h = tt
+le_number_left x y h = le_left x y h
 
 pub le_number_right : (x y : Float) → T (le x y) → T (not (is_nan y))
-unfolding is_nan
-le_number_right x nan h = absurd (le_nan x h)
-le_number_right x (inf s) h = tt
-le_number_right x (fin s m e) h = tt
+le_number_right x y h = le_right x y h
 
 pub le_number_right_test : (x y : Float) → le x y ≡ true → T (not (is_nan y))
-le_number_right_test x y h = le_number_right x y (subst T (sym h) tt)
+le_number_right_test x y h = le_right x y (T_from_true (le x y) h)
 
 pub le→rank : (x y : Float) → T (fits binary64 x) → T (fits binary64 y) → T (le x y) → rank_of x ≤ rank_of y
 le→rank x y f g h = leb→le (rank_of x) (rank_of y) (subst T (le_by_rank x y (le_number_left x y h) (le_number_right x y h) f g) h)
 
 pub le_transitive : (x y z : Float) → T (fits binary64 x) → T (fits binary64 y) → T (fits binary64 z) → T (le x y) → T (le y z) → T (le x z)
-le_transitive x y z f g i h k = subst T (sym (le_by_rank x z (le_number_left x y h) (le_number_right y z k) f i)) (le→leb (rank_of x) (rank_of z) (le_trans (le→rank x y f g h) (le→rank y z g i k)))
+le_transitive x y z f g i h k = le_trans x y z h k
 
 -- of two numbers one is at most the other
 pub not_lt→le : (x y : Float) → T (not (is_nan x)) → T (not (is_nan y)) → T (fits binary64 x) → T (fits binary64 y) → lt x y ≡ false → T (le y x)
 not_lt→le x y p q f g h = subst T (sym (le_by_rank y x q p g f)) (le→leb (rank_of y) (rank_of x) (nltb→le (rank_of x) (rank_of y) (subst (λ (t : Bool). T (not t)) (sym h ∙ lt_by_rank x y p q f g) tt)))
 
 pub lt→le : (x y : Float) → T (not (is_nan x)) → T (not (is_nan y)) → T (fits binary64 x) → T (fits binary64 y) → lt x y ≡ true → T (le x y)
-lt→le x y p q f g h = subst T (sym (le_by_rank x y p q f g)) (le→leb (rank_of x) (rank_of y) (le_of_lt (ltb→lt (rank_of x) (rank_of y) (subst T (sym h ∙ lt_by_rank x y p q f g) tt))))
+lt→le x y p q f g h = le_of_lt x y (T_from_true (lt x y) h)
 
 pub le→not_lt : (x y : Float) → T (fits binary64 x) → T (fits binary64 y) → T (le y x) → lt x y ≡ false
 le→not_lt x y f g h = lt_by_rank x y (le_number_right y x h) (le_number_left y x h) f g ∙ is_false (ltb (rank_of x) (rank_of y)) (go (ltb (rank_of x) (rank_of y)) (ltb→lt (rank_of x) (rank_of y)))
@@ -87,17 +83,10 @@ lt_number_left (inf s) y h = tt
 lt_number_left (fin s m e) y h = tt
 
 pub le_reflexive : (x : Float) → T (not (is_nan x)) → T (fits binary64 x) → T (le x x)
-le_reflexive x p f = subst T (sym (le_by_rank x x p p f f)) (le→leb (rank_of x) (rank_of x) (le_refl (rank_of x)))
+le_reflexive x p f = le_refl x p
 
 pub lt_transitive : (x y z : Float) → T (fits binary64 x) → T (fits binary64 y) → T (fits binary64 z) → lt x y ≡ true → lt y z ≡ true → lt x z ≡ true
-lt_transitive x y z f g i h k =
-    let p = lt_number_left x y h in
-    let q = lt_number_right x y h in
-    let r = lt_number_right y z k in
-    lt_by_rank x z p r f i ∙ is_true (ltb (rank_of x) (rank_of z)) (lt→ltb (rank_of x) (rank_of z) (lt_trans (rank x y p q f g h) (rank y z q r g i k)))
-  where
-    rank : (x y : Float) → T (not (is_nan x)) → T (not (is_nan y)) → T (fits binary64 x) → T (fits binary64 y) → lt x y ≡ true → rank_of x < rank_of y
-    rank x y p q f g h = ltb→lt (rank_of x) (rank_of y) (subst T (sym h ∙ lt_by_rank x y p q f g) tt)
+lt_transitive x y z f g i h k = is_true (lt x z) (lt_trans x y z (T_from_true (lt x y) h) (T_from_true (lt y z) k))
 
 -- the sign of a zero is not seen by a comparison
 zero_rank : (e : ℤ) → rank_of (fin true 0 e) ≡ rank_of (fin false 0 e)

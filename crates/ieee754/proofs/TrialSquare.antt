@@ -7,7 +7,9 @@ use native.Mathlib.Omega.{arith}
 use lib.Dec.{T, leb, leb→le, le→leb}
 use lib.Ieee.Bits.{is_true}
 use lib.Ieee.Fits.{and_l, and_r, and_i}
-use Rattle.ieee754.specs.InnerRoot.{RootDigits, is_integer_root, trial_remainder}
+use Rattle.ieee754.specs.InnerRoot.{RootDigits, is_integer_root, trial_of}
+use Rattle.std.specs.Prelude.{Some, None}
+use Rattle.std.proofs.lemmas.Option.{cond_some}
 
 pub record Halves (q a b : ℕ) : Type 0 where
   pub ab : a * b ≤ 2 ^ 53
@@ -47,22 +49,18 @@ low a b = a * b * 2 % 134217728 * 134217728 + b * b
 abbrev left : ℕ → ℕ → ℕ → ℕ
 left m a b = (m / 4 - high a b) * 18014398509481984 + m % 4 * 4503599627370496
 
--- the answer of a trial
-abbrev Says : Bool → ℕ → ℕ → ℕ → Type 0
-Says holds n m q = (holds ≡ is_integer_root m q) × (n ≡ trial_remainder m q)
-
-says_yes : (m q n : ℕ) → q * q + n ≡ m * 2 ^ 52 → n ≤ 2 * q → Says true n m q
-unfolding trial_remainder is_integer_root
-says_yes m q n e h =
+says_some : (m q n : ℕ) → q * q + n ≡ m * 2 ^ 52 → n ≤ 2 * q → Some n ≡ trial_of m q
+unfolding trial_of is_integer_root
+says_some m q n e h =
     let both = is_true (leb (q * q) (m * 2 ^ 52) && leb (m * 2 ^ 52) (q * q + 2 * q)) (and_i (leb (q * q) (m * 2 ^ 52)) (leb (m * 2 ^ 52) (q * q + 2 * q)) (le→leb (q * q) (m * 2 ^ 52) (omega arith)) (le→leb (m * 2 ^ 52) (q * q + 2 * q) (omega arith))) in
-    (sym both, rest (m * 2 ^ 52) (q * q) n e ∙ sym (ap (λ (b : Bool). cond b (m * 2 ^ 52 - q * q) 0) both))
+    ap Some (rest (m * 2 ^ 52) (q * q) n e) ∙ sym (ap (λ (b : Bool). cond b (Some (m * 2 ^ 52 - q * q)) None) both)
   where
     rest : (w s n : ℕ) → s + n ≡ w → n ≡ w - s
     rest w s n e = omega arith
 
-says_no : (m q : ℕ) → (T (leb (q * q) (m * 2 ^ 52)) → T (leb (m * 2 ^ 52) (q * q + 2 * q)) → ⊥) → Says false 0 m q
-unfolding trial_remainder is_integer_root
-says_no m q f = let e = go (leb (q * q) (m * 2 ^ 52)) (leb (m * 2 ^ 52) (q * q + 2 * q)) f in (sym e, sym (ap (λ (b : Bool). cond b (m * 2 ^ 52 - q * q) 0) e))
+says_none : (m q : ℕ) → (T (leb (q * q) (m * 2 ^ 52)) → T (leb (m * 2 ^ 52) (q * q + 2 * q)) → ⊥) → None ≡ trial_of m q
+unfolding trial_of is_integer_root
+says_none m q f = sym (ap (λ (b : Bool). cond b (Some (m * 2 ^ 52 - q * q)) None) (go (leb (q * q) (m * 2 ^ 52)) (leb (m * 2 ^ 52) (q * q + 2 * q)) f))
   where
     go : (a b : Bool) → (T a → T b → ⊥) → (a && b) ≡ false
     go true true f = absurd (f tt tt)
@@ -70,8 +68,8 @@ says_no m q f = let e = go (leb (q * q) (m * 2 ^ 52)) (leb (m * 2 ^ 52) (q * q +
     go false b f = refl
 
 module _ (m q a b : ℕ) (small : q < 2 ^ 53) (halves : Halves q a b) where
-  pub trial_holds : high a b ≤ m / 4 → low a b ≤ left m a b → left m a b - low a b ≤ 2 * q → Says true (left m a b - low a b) m q
-  trial_holds h k c = says_yes m q (left m a b - low a b) (sum m (q * q) (a * a) (a * b * 2) (b * b) halves.sq h k) c
+  pub trial_holds : high a b ≤ m / 4 → low a b ≤ left m a b → left m a b - low a b ≤ 2 * q → Some (left m a b - low a b) ≡ trial_of m q
+  trial_holds h k c = says_some m q (left m a b - low a b) (sum m (q * q) (a * a) (a * b * 2) (b * b) halves.sq h k) c
     where
       sum : (m qq aa ab bb : ℕ) → qq ≡ aa * 2 ^ 54 + ab * 2 ^ 27 + bb → aa + ab / 134217728 ≤ m / 4
           → ab % 134217728 * 134217728 + bb ≤ (m / 4 - (aa + ab / 134217728)) * 18014398509481984 + m % 4 * 4503599627370496
@@ -79,30 +77,30 @@ module _ (m q a b : ℕ) (small : q < 2 ^ 53) (halves : Halves q a b) where
       sum m qq aa ab bb e l k = omega arith
 
   -- the high part is too great
-  pub trial_high : m / 4 < high a b → Says false 0 m q
-  trial_high h = says_no m q (λ t u. clash m (q * q) (a * a) (a * b * 2) (b * b) halves.sq h (leb→le (q * q) (m * 2 ^ 52) t))
+  pub trial_high : m / 4 < high a b → None ≡ trial_of m q
+  trial_high h = says_none m q (λ t u. clash m (q * q) (a * a) (a * b * 2) (b * b) halves.sq h (leb→le (q * q) (m * 2 ^ 52) t))
     where
       clash : (m qq aa ab bb : ℕ) → qq ≡ aa * 2 ^ 54 + ab * 2 ^ 27 + bb → m / 4 < aa + ab / 134217728 → qq ≤ m * 2 ^ 52 → ⊥
       clash m qq aa ab bb e h l = omega arith
 
   -- it is too small by far
-  pub trial_far : high a b ≤ m / 4 → 8 ≤ m / 4 - high a b → Says false 0 m q
-  trial_far h k = says_no m q (λ t u. clash m q (q * q) (a * a) (a * b * 2) (b * b) small halves.bb halves.sq h k (leb→le (m * 2 ^ 52) (q * q + 2 * q) u))
+  pub trial_far : high a b ≤ m / 4 → 8 ≤ m / 4 - high a b → None ≡ trial_of m q
+  trial_far h k = says_none m q (λ t u. clash m q (q * q) (a * a) (a * b * 2) (b * b) small halves.bb halves.sq h k (leb→le (m * 2 ^ 52) (q * q + 2 * q) u))
     where
       clash : (m q qq aa ab bb : ℕ) → q < 2 ^ 53 → bb ≤ 2 ^ 54 → qq ≡ aa * 2 ^ 54 + ab * 2 ^ 27 + bb → aa + ab / 134217728 ≤ m / 4 → 8 ≤ m / 4 - (aa + ab / 134217728) → m * 2 ^ 52 ≤ qq + 2 * q → ⊥
       clash m q qq aa ab bb s l e h k u = omega arith
 
   -- the low part is too great
-  pub trial_low : high a b ≤ m / 4 → left m a b < low a b → Says false 0 m q
-  trial_low h k = says_no m q (λ t u. clash m (q * q) (a * a) (a * b * 2) (b * b) halves.sq h k (leb→le (q * q) (m * 2 ^ 52) t))
+  pub trial_low : high a b ≤ m / 4 → left m a b < low a b → None ≡ trial_of m q
+  trial_low h k = says_none m q (λ t u. clash m (q * q) (a * a) (a * b * 2) (b * b) halves.sq h k (leb→le (q * q) (m * 2 ^ 52) t))
     where
       clash : (m qq aa ab bb : ℕ) → qq ≡ aa * 2 ^ 54 + ab * 2 ^ 27 + bb → aa + ab / 134217728 ≤ m / 4
           → (m / 4 - (aa + ab / 134217728)) * 18014398509481984 + m % 4 * 4503599627370496 < ab % 134217728 * 134217728 + bb → qq ≤ m * 2 ^ 52 → ⊥
       clash m qq aa ab bb e h k l = omega arith
 
   -- the remainder is too great
-  pub trial_rest : high a b ≤ m / 4 → low a b ≤ left m a b → 2 * q < left m a b - low a b → Says false 0 m q
-  trial_rest h k c = says_no m q (λ t u. clash m q (q * q) (a * a) (a * b * 2) (b * b) halves.sq h k c (leb→le (m * 2 ^ 52) (q * q + 2 * q) u))
+  pub trial_rest : high a b ≤ m / 4 → low a b ≤ left m a b → 2 * q < left m a b - low a b → None ≡ trial_of m q
+  trial_rest h k c = says_none m q (λ t u. clash m q (q * q) (a * a) (a * b * 2) (b * b) halves.sq h k c (leb→le (m * 2 ^ 52) (q * q + 2 * q) u))
     where
       clash : (m q qq aa ab bb : ℕ) → qq ≡ aa * 2 ^ 54 + ab * 2 ^ 27 + bb → aa + ab / 134217728 ≤ m / 4
           → ab % 134217728 * 134217728 + bb ≤ (m / 4 - (aa + ab / 134217728)) * 18014398509481984 + m % 4 * 4503599627370496
@@ -110,12 +108,12 @@ module _ (m q a b : ℕ) (small : q < 2 ^ 53) (halves : Halves q a b) where
       clash m q qq aa ab bb e h k c u = omega arith
 
 -- a trial that holds gives the whole root and the remainder
-pub root_of_trial : (m q n : ℕ) (holds : Bool) → q < 2 ^ 53 → Says holds n m q → holds ≡ true → RootDigits m q n
-unfolding trial_remainder is_integer_root
-root_of_trial m q n holds small s h =
-    let e : (leb (q * q) (m * 2 ^ 52) && leb (m * 2 ^ 52) (q * q + 2 * q)) ≡ true = sym s.0 ∙ h in
-    let t : T (leb (q * q) (m * 2 ^ 52) && leb (m * 2 ^ 52) (q * q + 2 * q)) = subst T (sym e) tt in
+pub root_of_trial : (m q n : ℕ) → q < 2 ^ 53 → trial_of m q ≡ Some n → RootDigits m q n
+unfolding trial_of is_integer_root
+root_of_trial m q n small s =
+    let holds = cond_some (leb (q * q) (m * 2 ^ 52) && leb (m * 2 ^ 52) (q * q + 2 * q)) (m * 2 ^ 52 - q * q) n s in
+    let t : T (leb (q * q) (m * 2 ^ 52) && leb (m * 2 ^ 52) (q * q + 2 * q)) = subst T (sym holds.0) tt in
     let l = leb→le (q * q) (m * 2 ^ 52) (and_l (leb (q * q) (m * 2 ^ 52)) (leb (m * 2 ^ 52) (q * q + 2 * q)) t) in
     let u = leb→le (m * 2 ^ 52) (q * q + 2 * q) (and_r (leb (q * q) (m * 2 ^ 52)) (leb (m * 2 ^ 52) (q * q + 2 * q)) t) in
-    let r : n ≡ m * 2 ^ 52 - q * q = s.1 ∙ ap (λ (b : Bool). cond b (m * 2 ^ 52 - q * q) 0) e in
+    let r : m * 2 ^ 52 - q * q ≡ n = holds.1 in
     record { adds = omega arith; close = omega arith; small = small }

@@ -1,5 +1,6 @@
 -- How the root is searched for among bit patterns, by which `root_of` is a function, and what the steps of the code give, for inner contracts. Of the root itself `IsRoot` says all. Definitions only.
-use Rattle.std.specs.Prelude.{◌≡◌, Bool, cond, ◌&&◌, ℕ, zero, suc, ◌+◌, ◌-◌, ◌*◌, ◌/◌, ◌%◌, ◌^◌, ◌≤◌, ◌<◌, leb, ltb}
+use Rattle.std.specs.Prelude.{◌≡◌, Bool, cond, Some, None, ◌&&◌, ℕ, zero, suc, ◌+◌, ◌-◌, ◌*◌, ◌/◌, ◌%◌, ◌^◌, ◌≤◌, ◌<◌, leb, ltb}
+use Rattle.std.specs.declared.option.Option.{Option}
 
 -- ---- the search
 
@@ -70,9 +71,9 @@ pub record DigitTurns (m digits turns : ℕ) : Type 0 where
 unfoldable pub is_integer_root : ℕ → ℕ → Bool
 is_integer_root m q = leb (q * q) (m * 2 ^ 52) && leb (m * 2 ^ 52) (q * q + 2 * q)
 
--- the remainder of q, if it is that whole root, else 0
-unfoldable pub trial_remainder : ℕ → ℕ → ℕ
-trial_remainder m q = cond (is_integer_root m q) (m * 2 ^ 52 - q * q) 0
+-- the trial of q: the remainder, if q is that whole root
+unfoldable pub trial_of : ℕ → ℕ → Option ℕ
+trial_of m q = cond (is_integer_root m q) (Some (m * 2 ^ 52 - q * q)) None
 
 -- an integer root rounded to the nearest: up exactly if the remainder is above it, since (n + 1/2)² is n² + n + 1/4
 unfoldable pub rounded_root : ℕ → ℕ → ℕ

@@ -8,57 +8,33 @@ ghost use Rattle.std.specs.Float.Ieee.Positive.{positive};
 ghost use Rattle.ieee754.specs.MinMax.{minimum_of, maximum_of, clamp_of, absolute_of};
 ghost use Rattle.ieee754.specs.Root.{root_of, IsRoot};
 ghost use Rattle.ieee754.specs.Digits.{digits_needed};
-ghost use Rattle.ieee754.specs.InnerRoot.{RootDigits, DigitTurns, is_integer_root, trial_remainder};
+ghost use Rattle.ieee754.specs.InnerRoot.{RootDigits, DigitTurns, trial_of};
 ghost use Rattle.ieee754.specs.InnerRoot.{PositiveFinite, Normalized, EvenExponent, units_of_pattern, root_pattern, rounded_root};
 
-// A whole root, its remainder, and how many of its digits were looked for.
-#[derive(Clone, Copy)]
-struct DigitRoot {
-    digits: u64,
-    remainder: u64,
-    turns: u64,
-}
+// A significand's binary digits.
+const DIGITS: u32 = f64::MANTISSA_DIGITS;
 
-// The whole root of m * 2^52, digit by digit, and the remainder. It ends once nothing remains: the remainder is 0 and no
-// 1 of the radicand is left, so that all further digits are 0.
-fn root_digits(m: u64) -> DigitRoot
-    requires { m < 2 ^ 54 }
-    ensures root { RootDigits m result.digits result.remainder }
-    ensures turns { DigitTurns m result.digits result.turns }
-{
-    let mut q = 0u64;
-    let mut rest = 0u64;
-    let mut radicand = m;
-    let mut left = 53u64;
-    let mut unit = 9007199254740992u64;
-    while 0 < left {
-        if rest == 0 {
-            if radicand == 0 {
-                return DigitRoot {
-                    digits: q * unit,
-                    remainder: 0,
-                    turns: 53 - left,
-                };
-            }
-        }
-        let d = radicand / 4503599627370496;
-        radicand = radicand % 4503599627370496 * 4;
-        rest = rest * 4 + d;
-        let t = q * 4 + 1;
-        q = q * 2;
-        if t <= rest {
-            rest = rest - t;
-            q = q + 1;
-        }
-        unit = unit / 2;
-        left -= 1;
-    }
-    DigitRoot {
-        digits: q,
-        remainder: rest,
-        turns: 53,
-    }
-}
+// A significand's first digit, which a normal number's pattern leaves out: its fraction field is below it, the exponent
+// field above.
+const FIRST_DIGIT: u64 = 1 << 52;
+
+// Half of a significand's digits, for a square in u64.
+const HALF: u64 = 1 << 27;
+
+// The exponent fields of 1/2 and of 1.
+const EXPONENT_OF_HALF: u64 = 1022 << 52;
+
+const EXPONENT_OF_ONE: u64 = 1023 << 52;
+
+// From it half a number's pattern is taken for a first guess at 1 / sqrt.
+const GUESS_FROM: u64 = 0x5fe6_eb50_c7b5_37a9;
+
+// The pattern of infinity: each greater one, but for the sign, is a NaN's.
+const INFINITY_PATTERN: u64 = 0x7ff0_0000_0000_0000;
+
+const NAN_PATTERN: u64 = 0x7ff8_0000_0000_0000;
+
+const SIGN: u64 = 1 << 63;
 
 // A whole root and its remainder.
 #[derive(Clone, Copy)]
@@ -67,60 +43,87 @@ struct IntegerRoot {
     remainder: u64,
 }
 
-// Whether a number is the whole root, and the remainder if so, else 0.
+// A whole root, and how many of its digits were looked for.
 #[derive(Clone, Copy)]
-struct Trial {
-    holds: bool,
-    remainder: u64,
+struct CountedRoot {
+    root: IntegerRoot,
+    turns: u32,
 }
 
-// Tries q as the whole root of m * 2^52, exactly: the square by halves of 27 binary digits.
-fn try_root(m: u64, q: u64) -> Trial
-    requires { (m < 2 ^ 54) × (q < 2 ^ 53) }
-    ensures { (result.holds ≡ is_integer_root m q) × (result.remainder ≡ trial_remainder m q) }
+// The whole root of m * 2^52, digit by digit, and the remainder. It ends once nothing remains: the remainder is 0 and no
+// 1 of the radicand is left, so that all further digits are 0.
+fn root_digits(m: u64) -> CountedRoot
+    requires { m < 2 ^ 54 }
+    ensures root { RootDigits m result.root.digits result.root.remainder }
+    ensures turns { DigitTurns m result.root.digits result.turns }
 {
-    let a = q / 134217728;
-    let b = q % 134217728;
+    let mut q = 0u64;
+    let mut rest = 0u64;
+    let mut radicand = m;
+    for turns in 0..DIGITS {
+        if rest == 0 && radicand == 0 {
+            let root = IntegerRoot {
+                digits: q << (DIGITS - turns),
+                remainder: 0,
+            };
+            return CountedRoot { root, turns };
+        }
+        rest = rest * 4 + radicand / FIRST_DIGIT;
+        radicand = radicand % FIRST_DIGIT * 4;
+        let t = q * 4 + 1;
+        q = q * 2;
+        if t <= rest {
+            rest = rest - t;
+            q = q + 1;
+        }
+    }
+    let root = IntegerRoot {
+        digits: q,
+        remainder: rest,
+    };
+    CountedRoot {
+        root,
+        turns: DIGITS,
+    }
+}
+
+// Tries q as the whole root of m * 2^52, exactly: the remainder if it is. The square goes by halves of 27 binary digits.
+fn try_root(m: u64, q: u64) -> Option<u64>
+    requires { (m < 2 ^ 54) × (q < 2 ^ 53) }
+    ensures { result ≡ trial_of m q }
+{
+    let a = q / HALF;
+    let b = q % HALF;
     let ab = a * b * 2;
     let aa = a * a;
     let bb = b * b;
-    let hi = aa + ab / 134217728;
-    let lo = ab % 134217728 * 134217728 + bb;
+    let hi = aa + ab / HALF;
+    let lo = ab % HALF * HALF + bb;
     let top = m / 4;
-    if hi <= top {
-        let d = top - hi;
-        if d < 8 {
-            let v = d * 18014398509481984 + m % 4 * 4503599627370496;
-            if lo <= v {
-                let rest = v - lo;
-                if rest <= 2 * q {
-                    return Trial {
-                        holds: true,
-                        remainder: rest,
-                    };
-                }
-            }
-        }
+    if top < hi || 8 <= top - hi {
+        return None;
     }
-    Trial {
-        holds: false,
-        remainder: 0,
+    let left = (top - hi) * (4 * FIRST_DIGIT) + m % 4 * FIRST_DIGIT;
+    if left < lo || 2 * q < left - lo {
+        return None;
     }
+    Some(left - lo)
 }
 
 // A guess at the whole root of m * 2^52, by Newton's method on floats. It is a hint only: `try_root` checks it exactly,
 // and where it fails `root_digits` answers. So nothing is promised of it but its range.
+#[tactic(auto, using(crate::proofs::PatternValues::finite_pattern_no_nan, crate::proofs::FloatOrder::le_number_right_test))]
 fn guess_root(m: u64) -> u64
     requires { m < 2 ^ 54 }
     ensures { (2 ^ 52 ≤ result) × (result < 2 ^ 53) }
 {
-    let b = if m < 9007199254740992 {
-        m + 4602678819172646912
+    let b = if m < 2 * FIRST_DIGIT {
+        m + EXPONENT_OF_HALF
     } else {
-        m / 2 + 4607182418800017408
+        m / 2 + EXPONENT_OF_ONE
     };
     let x = f64::from_bits(b);
-    let mut y = f64::from_bits(6910469410427058089 - b / 2);
+    let mut y = f64::from_bits(GUESS_FROM - b / 2);
     let h = x * 0.5;
     y = y * (1.5 - h * y * y);
     y = y * (1.5 - h * y * y);
@@ -128,156 +131,105 @@ fn guess_root(m: u64) -> u64
     let mut z = x * y;
     z = z + 0.5 * y * (x - z * z);
     if z >= 1.0 {
-        return f64::to_bits(z) % 4503599627370496 + 4503599627370496;
+        return z.to_bits() % FIRST_DIGIT + FIRST_DIGIT;
     }
-    4503599627370496
+    FIRST_DIGIT
 }
 
 // The whole root of m * 2^52 and the remainder: the guess or one less, if a trial says so, else digit by digit.
+#[tactic(auto, using(crate::proofs::TrialSquare::root_of_trial))]
 fn integer_root(m: u64) -> IntegerRoot
     requires { m < 2 ^ 54 }
     ensures { RootDigits m result.digits result.remainder }
 {
-    let q = guess_root(m);
-    let t = try_root(m, q);
-    if t.holds {
-        return IntegerRoot {
-            digits: q,
-            remainder: t.remainder,
-        };
+    let digits = guess_root(m);
+    if let Some(remainder) = try_root(m, digits) {
+        return IntegerRoot { digits, remainder };
     }
-    let p = q - 1;
-    let u = try_root(m, p);
-    if u.holds {
-        return IntegerRoot {
-            digits: p,
-            remainder: u.remainder,
-        };
+    let digits = digits - 1;
+    if let Some(remainder) = try_root(m, digits) {
+        return IntegerRoot { digits, remainder };
     }
-    let d = root_digits(m);
-    IntegerRoot {
-        digits: d.digits,
-        remainder: d.remainder,
-    }
+    root_digits(m).root
 }
 
-// A significand of 53 binary digits and an exponent.
+// A significand, and the exponent of what it is multiplied by.
 #[derive(Clone, Copy)]
-struct Significand {
+struct Scaled {
     digits: u64,
     exponent: u64,
 }
 
 // The number of pattern b is digits * 2^(exponent - 52) units of 2^-1074. A subnormal number is shifted left.
-fn normalized(b: u64) -> Significand
+#[tactic(auto, using(crate::proofs::Normalization::normal_is_normalized))]
+fn normalized(b: u64) -> Scaled
     requires { PositiveFinite b }
     ensures { Normalized b result.digits result.exponent }
 {
-    let x = b / 4503599627370496;
-    let mut m = b % 4503599627370496;
+    let x = b / FIRST_DIGIT;
+    let fraction = b % FIRST_DIGIT;
     if x == 0 {
-        let mut w = 52u64;
-        while m < 4503599627370496 {
-            m = m * 2;
-            w -= 1;
-        }
-        Significand {
-            digits: m,
-            exponent: w,
+        let shift = fraction.leading_zeros() - FIRST_DIGIT.leading_zeros();
+        Scaled {
+            digits: fraction << shift,
+            exponent: 52 - shift as u64,
         }
     } else {
-        Significand {
-            digits: m + 4503599627370496,
+        Scaled {
+            digits: fraction + FIRST_DIGIT,
             exponent: x + 51,
         }
     }
 }
 
-// What a root is taken of: m, and the exponent of the root.
-#[derive(Clone, Copy)]
-struct Radicand {
-    m: u64,
-    exponent: u64,
-}
-
-// The number of pattern b as m * 2^52 times an even power of two.
-fn radicand_of(b: u64) -> Radicand
+// The number of pattern b as digits * 2^52 times an even power of two, whose root has the exponent.
+#[tactic(auto, using(crate::proofs::Normalization::either_exponent))]
+fn radicand_of(b: u64) -> Scaled
     requires { PositiveFinite b }
-    ensures { EvenExponent b result.m result.exponent }
+    ensures { EvenExponent b result.digits result.exponent }
 {
     let n = normalized(b);
     let g = n.exponent + 1022;
-    let mut m = n.digits;
-    if g % 2 == 1 {
-        m = m * 2;
-    }
-    Radicand {
-        m,
+    Scaled {
+        digits: n.digits << (g % 2),
         exponent: g / 2 - 26,
     }
 }
 
 // The pattern of a root's 53 digits and exponent: up exactly if the remainder is above the whole root.
-fn rounded(exponent: u64, digits: u64, remainder: u64) -> u64
-    requires { (exponent ≤ 1600) × (digits < 2 ^ 53) }
-    ensures { result ≡ exponent * 2 ^ 52 + rounded_root digits remainder }
+#[tactic(auto, using(crate::proofs::Normalization::rounded_above, crate::proofs::Normalization::rounded_else))]
+fn rounded(exponent: u64, root: IntegerRoot) -> u64
+    requires { (exponent ≤ 1600) × (root.digits < 2 ^ 53) }
+    ensures { result ≡ exponent * 2 ^ 52 + rounded_root root.digits root.remainder }
 {
-    if digits < remainder {
-        exponent * 4503599627370496 + (digits + 1)
+    if root.digits < root.remainder {
+        exponent * FIRST_DIGIT + (root.digits + 1)
     } else {
-        exponent * 4503599627370496 + digits
+        exponent * FIRST_DIGIT + root.digits
     }
 }
 
 // The pattern of the root of the number of pattern b.
 fn root_pattern(b: u64) -> u64
     requires { PositiveFinite b }
-    ensures { (result ≡ root_pattern (units_of_pattern b)) × (result < 9218868437227405312) }
+    ensures { (result ≡ root_pattern (units_of_pattern b)) × (result < 2047 * 2 ^ 52) }
 {
     let n = radicand_of(b);
-    let d = integer_root(n.m);
-    rounded(n.exponent, d.digits, d.remainder)
+    rounded(n.exponent, integer_root(n.digits))
 }
 
 // The square root, rounded once to the nearest: for every s, and of a positive finite s in document 01's own words.
+#[tactic(auto, using(crate::proofs::RootCases::pattern_from_tests, crate::proofs::PatternValues::finite_pattern_no_nan))]
 pub fn root(s: f64) -> f64
     ensures of_every { result ≡ root_of s }
     ensures of_positive { T (positive s) → IsRoot s result }
 {
-    if s != s {
-        return s;
-    }
-    if s < 0.0 {
-        return 0.0 / 0.0;
-    }
-    if s == 0.0 {
-        return s;
-    }
-    if s == 1.0 / 0.0 {
-        return s;
-    }
-    let b = f64::to_bits(s);
-    f64::from_bits(root_pattern(b))
-}
-
-// A root's pattern, and how many of its digits are needed.
-#[derive(Clone, Copy)]
-struct PatternAndDigits {
-    pattern: u64,
-    digits: u64,
-}
-
-// The pattern of the root of the number of pattern b by the digit loop, whose count of turns is that of the digits.
-fn pattern_by_digits(b: u64) -> PatternAndDigits
-    requires { PositiveFinite b }
-    ensures root { (result.pattern ≡ root_pattern (units_of_pattern b)) × (result.pattern < 9218868437227405312) }
-    ensures digits { (result.digits ≡ digits_needed (of_bits binary64 b)) × (result.digits ≤ 53) }
-{
-    let n = radicand_of(b);
-    let d = root_digits(n.m);
-    PatternAndDigits {
-        pattern: rounded(n.exponent, d.digits, d.remainder),
-        digits: d.turns,
+    if 0.0 < s && s < f64::INFINITY {
+        f64::from_bits(root_pattern(s.to_bits()))
+    } else if s < 0.0 {
+        f64::NAN
+    } else {
+        s
     }
 }
 
@@ -288,82 +240,83 @@ pub struct RootAndDigits {
     pub digits: u32,
 }
 
+// The root of the number of pattern b by the digit loop, whose count of turns is that of the digits.
+fn root_by_digits(b: u64) -> RootAndDigits
+    requires { PositiveFinite b }
+    ensures root { result.root ≡ of_bits binary64 (root_pattern (units_of_pattern b)) }
+    ensures digits { result.digits ≡ digits_needed (of_bits binary64 b) }
+{
+    let n = radicand_of(b);
+    let d = root_digits(n.digits);
+    RootAndDigits {
+        root: f64::from_bits(rounded(n.exponent, d.root)),
+        digits: d.turns,
+    }
+}
+
 // The square root, as `root` gives it, and the digits needed: of a positive finite s the fewest leading binary digits of
 // the root whose square is s, 53 if there are none; of every other s 0.
+#[tactic(auto, using(crate::proofs::RootCases::pattern_from_tests))]
 pub fn root_and_digits(s: f64) -> RootAndDigits
     ensures root { result.root ≡ root_of s }
     ensures digits { result.digits ≡ digits_needed s }
 {
-    if 0.0 < s {
-        if s < 1.0 / 0.0 {
-            let found = pattern_by_digits(f64::to_bits(s));
-            return RootAndDigits {
-                root: f64::from_bits(found.pattern),
-                digits: found.digits as u32,
-            };
+    if 0.0 < s && s < f64::INFINITY {
+        root_by_digits(s.to_bits())
+    } else {
+        RootAndDigits {
+            root: root(s),
+            digits: 0,
         }
-    }
-    RootAndDigits {
-        root: root(s),
-        digits: 0,
     }
 }
 
-// The smaller of two. A NaN operand is dropped, and of equal operands the first is given.
+// The smaller of two. A NaN operand is dropped, and of equal operands the first is given. `maximum` mirrors it: one
+// function for both would take the order as an argument, and be longer than the two lines.
 pub fn minimum(a: f64, b: f64) -> f64
     ensures { result ≡ minimum_of a b }
 {
-    if a != a {
-        return b;
-    }
-    if b < a { b } else { a }
+    if a.is_nan() || b < a { b } else { a }
 }
 
 // The larger of two, by the same rule.
 pub fn maximum(x: f64, y: f64) -> f64
     ensures { result ≡ maximum_of x y }
 {
-    if x != x {
-        return y;
-    }
-    if x < y { y } else { x }
+    if x.is_nan() || x < y { y } else { x }
 }
 
 // x with its sign bit cleared.
+#[tactic(auto, using(crate::proofs::MinMaxCases::absolute_is))]
 pub fn absolute(x: f64) -> f64
     ensures { result ≡ absolute_of x }
 {
-    if x < 0.0 {
-        return -x;
-    }
-    if x == 0.0 { 0.0 } else { x }
+    x.abs()
 }
 
 // x within 0..1. A NaN and -0 stay.
 pub fn clamp(x: f64) -> f64
     ensures { result ≡ clamp_of x }
 {
-    let y = if x < 0.0 { 0.0 } else { x };
-    if y > 1.0 { 1.0 } else { y }
+    x.clamp(0.0, 1.0)
 }
 
 // The number of a bit pattern; a NaN for each NaN's pattern, at which from_bits is undefined.
+#[tactic(auto, using(crate::proofs::Patterns::nan_read, std::proofs::lemmas::Float::not_nan_f64_bits))]
 pub fn from_pattern(bits: u64) -> f64
     ensures { result ≡ of_bits binary64 bits }
 {
-    if 0x7ff0_0000_0000_0000 < bits % 0x8000_0000_0000_0000 {
-        0.0 / 0.0
+    if INFINITY_PATTERN < bits % SIGN {
+        f64::NAN
     } else {
         f64::from_bits(bits)
     }
 }
 
 // The bit pattern of a number; 7FF8000000000000 hexadecimal for a NaN, at which to_bits is undefined.
+#[tactic(auto, using(crate::proofs::Patterns::nan_written))]
 pub fn to_pattern(x: f64) -> u64
     ensures { result ≡ to_bits binary64 x }
 {
-    if x != x {
-        return 0x7ff8_0000_0000_0000;
-    }
-    f64::to_bits(x)
+    if x.is_nan() { NAN_PATTERN } else { x.to_bits() }
 }

@@ -4,6 +4,8 @@ use mathlib.Core.Path.{◌≡◌, refl, sym, ap, ◌∙◌}
 use mathlib.Core.List.{List, [], ◌∷◌}
 use lib.Ieee.{Float}
 use Rattle.refusals.specs.Checks.{check, first_of}
+use Rattle.refusals.specs.declared.Reason.TheVariants.{FractionOutOfRange}
+use Rattle.refusals.specs.declared.Side.TheVariants.{First}
 use Rattle.coords.specs.Parts.{Run, run, map_runs, other_if, other_count}
 use Rattle.blob.specs.Blob.{runs_of_blob}
 use Rattle.blob.specs.Ignored.{SameButIgnored}
@@ -33,9 +35,9 @@ module _ (s t : List ℕ) (same : MeasuredAlike s t) where
   checks_alike : (fraction : Float) (w : Workspaces) (lent : List ℕ) → first_of (checks_of_lent s fraction w lent) ≡ first_of (checks_of_lent t fraction w lent)
   unfolding interpolation_checks
   checks_alike fraction w lent =
-      two_alike (check (no_side 2) (out_of_range fraction) ∷ []) _ _ _ refl
-      (two_alike _ _ _ _ (side_alike 1 _ _ same.header)
-      (two_alike _ _ _ _ (side_alike 1 _ _ same.walk) (rw (no_line_alike, coordinates_alike s t same, runs_alike s t same))))
+      two_alike (check (no_side FractionOutOfRange) (out_of_range fraction) ∷ []) _ _ _ refl
+      (two_alike _ _ _ _ (side_alike First _ _ same.header)
+      (two_alike _ _ _ _ (side_alike First _ _ same.walk) (rw (no_line_alike, coordinates_alike s t same, runs_alike s t same))))
 
   pub line_interpolate_point_alike : (fraction : Float) (w : Workspaces) (lent : List ℕ) → AnswersAlike (line_interpolate_point s fraction w lent) (line_interpolate_point t fraction w lent)
   unfolding line_interpolate_point point_of_blob

@@ -1,7 +1,7 @@
 -- What the call answers and leaves is the definition's outcome; and what the search is handed is the part of the workspace that was written. Assumes nothing.
 use mathlib.Core.Path.{◌≡◌, ap, subst}
 use mathlib.Core.List.{List, ◌++◌}
-use mathlib.Core.Option.{some}
+use Rattle.std.specs.Prelude.{Some, Err}
 use Prim.Native.Nat.{ℕ, ◌*◌, ◌<◌}
 use native.Mathlib.Omega.{arith}
 use lib.ListN.{length, take, drop}
@@ -17,16 +17,18 @@ use Rattle.parts.specs.Stored.{stored_runs}
 use Rattle.primitives.specs.declared.Point.{Point}
 use Rattle.operands.specs.Operands.{Workspaces, workspaces}
 use Rattle.outcomes.specs.Answers.{blob, answering, refusing}
-use Rattle.outcomes.specs.Operations.{outcome, unless}
+use Rattle.outcomes.specs.Operations.{outcome}
 use Rattle.outcomes.proofs.Handed.{Handed}
 use Rattle.outcomes.proofs.Handed as both
 use Rattle.interpolation.specs.Interpolation.{segments_of, interpolated_point}
-use Rattle.interpolation.specs.Operation.{point_of_blob, output_with, filled_one, line_interpolate_point}
-use Rattle.interpolation.specs.Inner.{line_checked_of, ReadyToMeasure, PointRead}
-use Rattle.interpolation.specs.declared.Checked.{Checked}
-use Rattle.interpolation.specs.declared.Checked.TheVariants as checked
+use Rattle.interpolation.specs.Operation.{interpolation_checks, point_of_blob, output_with, filled_one, line_interpolate_point}
+use Rattle.interpolation.specs.Inner.{ReadyToMeasure, PointRead}
+use Rattle.refusals.specs.Checks.{first_of, refused_or}
+use Rattle.refusals.proofs.Checks.{refused_is}
+use Rattle.blob.specs.Inner.{operand_of}
+use Rattle.blob.specs.declared.Operand.{Operand}
 use Rattle.interpolation.proofs.Lines.{segments_map, has_segment}
-use Rattle.interpolation.proofs.Order.{refused_is_first, IsAccepted}
+use Rattle.interpolation.proofs.Order.{IsAccepted}
 
 -- ---- the blob, once it is read
 
@@ -47,17 +49,17 @@ module _ (s : List ℕ) (at coords runs : ℕ) (fs : List Float) (ts : List ℕ)
     pub some_segment : 0 < length (segments_of (stored_runs (take (numbers_per_run * runs) ts') (take (floats_per_coordinate * coords) fs')))
     some_segment = rw segments (omega (arith, segments_map point_of (runs_of_blob s), has_segment (runs_of_blob s) ready.line))
 
-    pub point_read : (fraction : Float) (p : Point) → interpolated_point fraction (segments_of (stored_runs (take (numbers_per_run * runs) ts') (take (floats_per_coordinate * coords) fs'))) ≡ some p → PointRead s fraction fs ts fs' ts' p
+    pub point_read : (fraction : Float) (p : Point) → interpolated_point fraction (segments_of (stored_runs (take (numbers_per_run * runs) ts') (take (floats_per_coordinate * coords) fs'))) ≡ Some p → PointRead s fraction fs ts fs' ts' p
     unfolding point_of_blob
     point_read fraction p e = record { point = rw segments at e; memory = written_at }
 
 -- ---- the outcome
 
 module _ (s : List ℕ) (fraction : Float) (w : Workspaces) (out : List ℕ) where
-  pub outcome_refused : (r : Refusal) (o : Checked) → o ≡ line_checked_of s fraction (length w.floats1) (length w.table1) (length out) → o ≡ checked.Refused r → outcome (refusing r) w out ≡ line_interpolate_point s fraction w out
-  unfolding line_interpolate_point unless
-  outcome_refused r o p q = rw (refused_is_first s fraction (length w.floats1) (length w.table1) (length out) r o p q)
+  pub outcome_refused : (r : Refusal) → refused_or (first_of (interpolation_checks s fraction (length w.floats1) (length w.table1) (length out))) (operand_of s) ≡ Err r → outcome (refusing r) w out ≡ line_interpolate_point s fraction w out
+  unfolding line_interpolate_point
+  outcome_refused r p = rw (refused_is _ (operand_of s) r p)
 
-  pub outcome_written : (at coords runs srid : ℕ) → IsAccepted s fraction (length w.floats1) (length w.table1) (length out) at coords runs srid → (fs : List Float) (ts : List ℕ) (p : Point) → PointRead s fraction w.floats1 w.table1 fs ts p → (out' : List ℕ) → out' ≡ point_blob srid p.x p.y p.z ++ drop point_bytes out → outcome (answering blob) (workspaces fs ts w.floats2 w.table2) out' ≡ line_interpolate_point s fraction w out
-  unfolding line_interpolate_point unless filled_one output_with
-  outcome_written at coords runs srid a fs ts p read out' e = rw (a.none_first, read.memory.ordinates, read.memory.rows, e, a.own, read.point)
+  pub outcome_written : (o : Operand) → IsAccepted s fraction (length w.floats1) (length w.table1) (length out) o → (fs : List Float) (ts : List ℕ) (p : Point) → PointRead s fraction w.floats1 w.table1 fs ts p → (out' : List ℕ) → out' ≡ point_blob o.srid p.x p.y p.z ++ drop point_bytes out → outcome (answering blob) (workspaces fs ts w.floats2 w.table2) out' ≡ line_interpolate_point s fraction w out
+  unfolding line_interpolate_point filled_one output_with
+  outcome_written o a fs ts p read out' e = rw (a.none_first, read.memory.ordinates, read.memory.rows, e, a.own, read.point)

@@ -1,83 +1,97 @@
 -- One turn of a loop over the segments of a line, or over the runs of a workspace: what the turn adds, and what is left. Assumes nothing.
 use mathlib.Core.Path.{◌≡◌, refl}
-use mathlib.Core.Bool.{Bool, true, false, cond}
+use mathlib.Core.Bool.{true, false}
 use mathlib.Core.List.{List, [], ◌∷◌, ◌++◌, foldl, foldl-append}
-use Prim.Native.Nat.{ℕ, zero, suc, ◌+◌, ◌-◌, ◌*◌, ◌<◌, ◌≤◌}
-use native.Mathlib.Omega.{arith}
-use lib.Dec.{eqb}
-use lib.ListN.{length, drop}
-use lib.Ieee.{Float}
-use borrow.Author.Tests.{eq-eqb, ne_eqb}
-use Rattle.coords.specs.Parts.{segments_by, of_kind}
-use Rattle.workspace.specs.Workspace.{floats_per_coordinate, numbers_per_run}
-use Rattle.parts.specs.Stored.{stored_point, points_from, runs_from, stored_runs, run_count, kind_at, count_at, point_count, Laid}
-use Rattle.parts.proofs.Turns.{points_next, runs_next, runs_none, count_next}
+use Prim.Native.Nat.{ℕ}
+use lib.Ieee.{Float, binary64, add, le}
+use Rattle.std.specs.Prelude.{Option, Some}
+use Rattle.coords.specs.Parts.{Run, run, segments_by, of_kind}
+use Rattle.parts.specs.declared.Class.TheVariants.{Lines}
+use Rattle.parts.specs.Classes.{is_of}
+use Rattle.parts.specs.Slices.{segments_in}
 use Rattle.primitives.specs.declared.Point.{Point}
-use Rattle.interpolation.specs.Interpolation.{Segment, segment, segments_of_line, segments_of}
+use Rattle.interpolation.specs.Interpolation.{Segment, segment, length_of, with_length, segments_of_line, segments_of}
+use Rattle.interpolation.specs.declared.Measured.{Measured}
+use Rattle.interpolation.specs.declared.Stop.{Stop}
+use Rattle.interpolation.specs.Inner.{measuring, stop_at, stop_from}
 
--- ---- the segments of a line
+-- ---- segments by their two points
 
-module _ (floats : List Float) (at n : ℕ) where
-  line_next : 1 < n → segments_of_line (points_from floats at n) ≡ segment (stored_point floats at) (stored_point floats (at + 1)) ∷ segments_of_line (points_from floats (at + 1) (n - 1))
-  unfolding segments_by
-  line_next h = rw (points_next floats at n (omega arith), points_next floats (at + 1) (n - 1) (omega arith))
+abbrev pub of_points : Point × Point → Segment Point
+of_points p = segment p.0 p.1
 
-  line_done : n ≤ 1 → segments_of_line (points_from floats at n) ≡ []
-  unfolding segments_by points_from
-  line_done h = go n h
-    where
-      go : (k : ℕ) → k ≤ 1 → segments_of_line (points_from floats at k) ≡ []
-      go zero l = refl
-      go (suc zero) l = refl
-      go (suc (suc k)) l = absurd (omega arith)
+-- the segments by those that an iterator yields
+unfoldable pub as_segments : List (Point × Point) → List (Segment Point)
+as_segments [] = []
+as_segments (p ∷ ps) = of_points p ∷ as_segments ps
 
-  module _ {S : Type 0} (step : S → Segment Point → S) (s : S) where
-    pub line_turn : 1 < n → foldl step s (segments_of_line (points_from floats at n)) ≡ foldl step (step s (segment (stored_point floats at) (stored_point floats (at + 1)))) (segments_of_line (points_from floats (at + 1) (n - 1)))
-    line_turn h = rw (line_next h)
-
-    pub line_end : n ≤ 1 → foldl step s (segments_of_line (points_from floats at n)) ≡ s
-    line_end h = rw (line_done h)
+as_segments_of_line : (ps : List Point) → as_segments (segments_in ps) ≡ segments_of_line ps
+unfolding as_segments segments_by
+as_segments_of_line [] = refl
+as_segments_of_line (a ∷ []) = refl
+as_segments_of_line (a ∷ b ∷ ps) = rw (as_segments_of_line (b ∷ ps))
 
 -- ---- the runs
 
--- the segments from run r on, whose points start at place at
-abbrev pub segments_left : List ℕ → List Float → ℕ → ℕ → List (Segment Point)
-segments_left table floats r at = segments_of (runs_from floats at (drop (numbers_per_run * r) table))
+module _ (rs : List (Run Point)) (kind : ℕ) (ps : List Point) (left : List (Run Point)) (e : rs ≡ run kind ps ∷ left) where
+  line_next : is_of Lines kind ≡ true → segments_of rs ≡ as_segments (segments_in ps) ++ segments_of left
+  unfolding of_kind is_of
+  line_next t = rw (e, as_segments_of_line ps, t)
 
--- there is a float for each ordinate of each run from r on
-abbrev pub RoomFrom : List ℕ → List Float → ℕ → ℕ → Type 0
-RoomFrom table floats r at = floats_per_coordinate * (at + point_count (drop (numbers_per_run * r) table)) ≤ length floats
+  other_next : is_of Lines kind ≡ false → segments_of rs ≡ segments_of left
+  unfolding of_kind is_of
+  other_next t = rw (e, t)
 
-pub runs_start : (table : List ℕ) (floats : List Float) → segments_left table floats 0 0 ≡ segments_of (stored_runs table floats)
-unfolding stored_runs
-runs_start table floats = refl
-
-pub room_start : (table : List ℕ) (floats : List Float) → Laid table floats → RoomFrom table floats 0 0
-unfolding Laid
-room_start table floats h = omega (arith, h)
-
-pub runs_end : (table : List ℕ) (floats : List Float) (r at runs : ℕ) → runs ≡ run_count table → runs ≤ r → segments_left table floats r at ≡ []
+no_run : (rs : List (Run Point)) → rs ≡ [] → segments_of rs ≡ []
 unfolding of_kind
-runs_end table floats r at runs e h = rw (runs_none floats at table r (rw e at h))
+no_run rs e = rw e
 
--- run r has n points and kind k; there is a run r
-module _ (table : List ℕ) (floats : List Float) (r at n k runs : ℕ) (count : n ≡ count_at table r) (is : k ≡ kind_at table r) (all : runs ≡ run_count table) (h : r < runs) where
-  there : r < run_count table
-  there = rw all at h
+-- ---- the first pass
 
-  run_next : (b : Bool) → eqb k 2 ≡ b → segments_left table floats r at ≡ cond b (segments_of_line (points_from floats at n)) [] ++ segments_left table floats (r + 1) (at + n)
-  unfolding of_kind
-  run_next b e = rw (count, runs_next table r there floats at, ← is, e)
+module _ (m : Option Measured) where
+  pub measured_line : (rs : List (Run Point)) (kind : ℕ) (ps : List Point) (left : List (Run Point)) → rs ≡ run kind ps ∷ left → is_of Lines kind ≡ true
+      → foldl measuring m (segments_of rs) ≡ foldl measuring (foldl measuring m (as_segments (segments_in ps))) (segments_of left)
+  measured_line rs kind ps left e t = rw (line_next rs kind ps left e t) (foldl-append measuring m (as_segments (segments_in ps)) (segments_of left))
 
-  module _ {S : Type 0} (step : S → Segment Point → S) (s : S) where
-    pub run_taken : k ≡ 2 → foldl step s (segments_left table floats r at) ≡ foldl step (foldl step s (segments_of_line (points_from floats at n))) (segments_left table floats (r + 1) (at + n))
-    run_taken e = rw (run_next true (eq-eqb _ _ e)) (foldl-append step s (segments_of_line (points_from floats at n)) (segments_left table floats (r + 1) (at + n)))
+  pub measured_other : (rs : List (Run Point)) (kind : ℕ) (ps : List Point) (left : List (Run Point)) → rs ≡ run kind ps ∷ left → is_of Lines kind ≡ false
+      → foldl measuring m (segments_of rs) ≡ foldl measuring m (segments_of left)
+  measured_other rs kind ps left e t = rw (other_next rs kind ps left e t)
 
-    pub run_passed : (k ≡ 2 → ⊥) → foldl step s (segments_left table floats r at) ≡ foldl step s (segments_left table floats (r + 1) (at + n))
-    run_passed e = rw (run_next false (ne_eqb _ _ e))
+  pub measured_end : (rs : List (Run Point)) → rs ≡ [] → foldl measuring m (segments_of rs) ≡ m
+  measured_end rs e = rw (no_run rs e)
 
-  pub room_run : RoomFrom table floats r at → floats_per_coordinate * (at + n) ≤ length floats
-  room_run m = rw count (omega (arith, count_next table r there))
+  pub measured_next : (gs : List (Point × Point)) (a b : Point) (left : List (Point × Point)) → gs ≡ (a, b) ∷ left → foldl measuring m (as_segments gs) ≡ foldl measuring (measuring m (segment a b)) (as_segments left)
+  unfolding as_segments
+  measured_next gs a b left e = rw e
 
-  pub room_next : RoomFrom table floats r at → RoomFrom table floats (r + 1) (at + n)
-  room_next m = rw count (omega (arith, count_next table r there))
+  pub measured_last : (gs : List (Point × Point)) → gs ≡ [] → foldl measuring m (as_segments gs) ≡ m
+  unfolding as_segments
+  measured_last gs e = rw e
+
+-- ---- the second pass
+
+module _ (target walked : Float) (last : Option Stop) where
+  pub stop_line : (rs : List (Run Point)) (kind : ℕ) (ps : List Point) (left : List (Run Point)) → rs ≡ run kind ps ∷ left → is_of Lines kind ≡ true
+      → stop_from target walked last (segments_of rs) ≡ stop_from target walked last (as_segments (segments_in ps) ++ segments_of left)
+  stop_line rs kind ps left e t = rw (line_next rs kind ps left e t)
+
+  pub stop_other : (rs : List (Run Point)) (kind : ℕ) (ps : List Point) (left : List (Run Point)) → rs ≡ run kind ps ∷ left → is_of Lines kind ≡ false
+      → stop_from target walked last (segments_of rs) ≡ stop_from target walked last (segments_of left)
+  stop_other rs kind ps left e t = rw (other_next rs kind ps left e t)
+
+  pub stop_end : (rs : List (Run Point)) → rs ≡ [] → stop_from target walked last (segments_of rs) ≡ last
+  unfolding stop_from
+  stop_end rs e = rw (no_run rs e)
+
+  module _ (gs : List (Point × Point)) (a b : Point) (left : List (Point × Point)) (more : List (Segment Point)) where
+    pub stop_here : gs ≡ (a, b) ∷ left → (n : Float) → n ≡ length_of (segment a b) → le target (add binary64 walked n) ≡ true → stop_from target walked last (as_segments gs ++ more) ≡ Some (stop_at walked (segment a b))
+    unfolding as_segments stop_from with_length
+    stop_here e n f t = rw (e, ← f, t)
+
+    pub stop_later : gs ≡ (a, b) ∷ left → le target (with_length walked (segment a b)) ≡ false → stop_from target walked last (as_segments gs ++ more) ≡ stop_from target (with_length walked (segment a b)) (Some (stop_at walked (segment a b))) (as_segments left ++ more)
+    unfolding as_segments stop_from
+    stop_later e t = rw (e, t)
+
+  pub stop_last : (gs : List (Point × Point)) (more : List (Segment Point)) → gs ≡ [] → stop_from target walked last (as_segments gs ++ more) ≡ stop_from target walked last more
+  unfolding as_segments
+  stop_last gs more e = rw e

@@ -1,21 +1,17 @@
 -- What the inner functions answer: for inner contracts only. Definitions only.
-use Rattle.std.specs.Prelude.{ℕ, ◌≡◌, Bool, true, false, cond, ◌||◌, List, ltb, eqb, length, Float}
-use Rattle.std.proofs.Math.Option.{Option, none, some}
+use Rattle.std.specs.Prelude.{ℕ, ◌≡◌, Bool, false, cond, ◌||◌, List, [], ◌∷◌, ltb, eqb, length, Float, Option, Some, None}
+use mathlib.Core.List.{foldl}
 use Rattle.std.specs.Float.Ieee.{le}
 use Rattle.ieee754.specs.MinMax.{positive_zero}
-use Rattle.refusals.specs.Checks.{first_of}
-use Rattle.refusals.specs.declared.Refusal.{Refusal}
-use Rattle.gpb.specs.Header.{geometry_start, srid_of}
+use Rattle.gpb.specs.Header.{geometry_start}
 use Rattle.coords.specs.Parts.{coordinate_count}
 use Rattle.workspace.specs.Workspace.{Room, RunsWritten}
 use Rattle.blob.specs.Blob.{walk_of_blob, runs_of_blob}
 use Rattle.primitives.specs.declared.Point.{Point}
 use Rattle.interpolation.specs.Interpolation.{Segment, with_length}
-use Rattle.interpolation.specs.Operation.{is_no_line, interpolation_checks, point_of_blob}
-use Rattle.interpolation.specs.declared.Checked.{Checked}
-use Rattle.interpolation.specs.declared.Checked.TheVariants as checked
+use Rattle.interpolation.specs.Operation.{is_no_line, point_of_blob}
 use Rattle.interpolation.specs.declared.Measured.{Measured}
-use Rattle.interpolation.specs.declared.Search.{Search}
+use Rattle.interpolation.specs.declared.Stop.{Stop}
 
 -- ---- the checks
 
@@ -23,36 +19,29 @@ use Rattle.interpolation.specs.declared.Search.{Search}
 abbrev pub no_line_by : ℕ → ℕ → ℕ → Bool
 no_line_by coords runs others = eqb coords runs || ltb 0 others
 
-unfoldable pub line_checked_by : Option Refusal → List ℕ → Checked
-line_checked_by (some r) s = checked.Refused r
-line_checked_by none s = checked.Accepted (geometry_start s) (coordinate_count (runs_of_blob s)) (length (runs_of_blob s)) (srid_of s)
-
-unfoldable pub line_checked_of : List ℕ → Float → ℕ → ℕ → ℕ → Checked
-line_checked_of s fraction floats numbers output = line_checked_by (first_of (interpolation_checks s fraction floats numbers output)) s
-
 -- ---- the two passes over the segments
 
-abbrev pub origin : Point
-origin = record { x = positive_zero; y = positive_zero; z = positive_zero }
-
 -- the first segment's start, and the lengths added
-unfoldable pub measuring : Measured → Segment Point → Measured
-measuring m g = record { started = true; start = cond m.started m.start g.start; total = with_length m.total g }
+unfoldable pub measuring : Option Measured → Segment Point → Option Measured
+measuring None g = Some (record { start = g.start; total = with_length positive_zero g })
+measuring (Some m) g = Some (record { start = m.start; total = with_length m.total g })
 
--- the segment g looked at: the search stops there if walked + length ≥ target
-unfoldable pub looked_at : Float → Float → Segment Point → Search
-looked_at target walked g = record { found = le target (with_length walked g); walked = walked; reached = with_length walked g; start = g.start; end = g.end }
+-- of all segments; none where there is no segment
+unfoldable pub measured_of : List (Segment Point) → Option Measured
+measured_of gs = foldl measuring None gs
 
--- the same, unless the search has stopped before
-unfoldable pub searching : Float → Search → Segment Point → Search
-searching target w g = cond w.found w (looked_at target w.reached g)
+-- the segment g, what is walked before it
+abbrev pub stop_at : Float → Segment Point → Stop
+stop_at walked g = record { walked = walked; start = g.start; end = g.end }
 
--- before the first segment
-unfoldable pub not_measured : Measured
-not_measured = record { started = false; start = origin; total = positive_zero }
+-- on the first segment where walked + length ≥ target, or on the last by position: `last` stands for those before
+unfoldable pub stop_from : Float → Float → Option Stop → List (Segment Point) → Option Stop
+stop_from target walked last [] = last
+stop_from target walked last (g ∷ gs) = cond (le target (with_length walked g)) (Some (stop_at walked g)) (stop_from target (with_length walked g) (Some (stop_at walked g)) gs)
 
-unfoldable pub not_searched : Search
-not_searched = record { found = false; walked = positive_zero; reached = positive_zero; start = origin; end = origin }
+-- from the first segment on
+unfoldable pub stop_of : Float → List (Segment Point) → Option Stop
+stop_of target gs = stop_from target positive_zero None gs
 
 -- ---- the blob, once it is read
 
@@ -66,5 +55,5 @@ pub record ReadyToMeasure (s : List ℕ) (at coords runs floats numbers : ℕ) :
 
 -- the point, and the workspace after the call, from that before it
 pub record PointRead (s : List ℕ) (fraction : Float) (floats : List Float) (table : List ℕ) (floats' : List Float) (table' : List ℕ) (p : Point) : Type 0 where
-  pub point : point_of_blob s fraction ≡ some p
+  pub point : point_of_blob s fraction ≡ Some p
   pub memory : RunsWritten (runs_of_blob s) floats table floats' table'

@@ -1,7 +1,6 @@
 -- The point at a fraction of a line's length (document 01, Interpolation), each IEEE 754 operation rounded once, in the Rust's order. Definitions only.
-use Rattle.std.specs.Prelude.{cond, Float}
+use Rattle.std.specs.Prelude.{cond, Float, Option, None, Some}
 use mathlib.Core.List.{List, [], ◌∷◌, foldl}
-use Rattle.std.proofs.Math.Option.{Option, none, some}
 use Rattle.std.specs.Float.{binary64}
 use Rattle.std.specs.Float.Ieee.{add, sub, mul, div, eq, le}
 use Rattle.ieee754.specs.MinMax.{positive_zero, clamp_of}
@@ -61,5 +60,5 @@ point_along fraction total g gs = cond (eq total positive_zero) g.start (point_f
 
 -- the point at a fraction of the segments' total length; none where there is no segment
 unfoldable pub interpolated_point : Float → List (Segment Point) → Option Point
-interpolated_point fraction [] = none
-interpolated_point fraction (g ∷ gs) = some (point_along fraction (total_of (g ∷ gs)) g gs)
+interpolated_point fraction [] = None
+interpolated_point fraction (g ∷ gs) = Some (point_along fraction (total_of (g ∷ gs)) g gs)

@@ -1,10 +1,11 @@
 -- The outcome of st_3d_line_interpolate_point for every input: report, workspace, output (document 01, Interpolation, the table and "Order").
 -- Undecided is only the payload, sign included, of a NaN in the workspace: the model of floats has one NaN. Definitions only.
-use Rattle.std.specs.Prelude.{ℕ, Bool, ◌&&◌, ◌||◌, not, List, [], ◌∷◌, ◌++◌, ltb, eqb, length, drop, Float}
-use Rattle.std.proofs.Math.Option.{Option, none, some}
+use Rattle.std.specs.Prelude.{ℕ, Bool, ◌&&◌, ◌||◌, not, List, [], ◌∷◌, ◌++◌, ltb, eqb, length, drop, Float, Option, None, Some, Result, Ok, Err}
 use Rattle.std.specs.Float.Ieee.{le}
 use Rattle.ieee754.specs.MinMax.{positive_zero, one}
 use Rattle.refusals.specs.Checks.{Check, check, first_of, on_side}
+use Rattle.refusals.specs.declared.Reason.TheVariants.{FractionOutOfRange, NoLine, WorkspaceTooSmall, OutputTooShort}
+use Rattle.refusals.specs.declared.Side.TheVariants.{First}
 use Rattle.refusals.specs.declared.Refusal.{Refusal}
 use Rattle.gpb.specs.Header.{geometry_start, srid_of, header_checks}
 use Rattle.gpb.specs.Written.{point_bytes, point_blob}
@@ -18,8 +19,6 @@ use Rattle.outcomes.specs.Answers.{blob, Report, refusing, answering}
 use Rattle.outcomes.specs.Operations.{Outcome, outcome, no_side, unless}
 use Rattle.primitives.specs.declared.Point.{Point}
 use Rattle.interpolation.specs.Interpolation.{segments_of, interpolated_point}
-use Rattle.interpolation.specs.declared.Interpolated.{Interpolated}
-use Rattle.interpolation.specs.declared.Interpolated.TheVariants as interpolated
 
 -- ---- the table's rows
 
@@ -36,19 +35,19 @@ is_no_line rs = ltb 0 (other_count rs) || eqb (length (segments_of rs)) 0
 -- `floats`, `numbers` and `output` are the lengths lent
 unfoldable pub interpolation_checks : List ℕ → Float → ℕ → ℕ → ℕ → List (Check Refusal)
 interpolation_checks s fraction floats numbers output =
-    (check (no_side 2) (out_of_range fraction) ∷ [])
-    ++ (on_side 1 (header_checks s)
-    ++ (on_side 1 (walk_checks s (geometry_start s))
-    ++ (on_side 1 (check 14 (is_no_line (runs_of_blob s)) ∷ [])
-    ++ (on_side 1 (check 15 (too_small (runs_of_blob s) floats numbers) ∷ [])
-    ++ (check (no_side 16) (ltb output point_bytes) ∷ [])))))
+    (check (no_side FractionOutOfRange) (out_of_range fraction) ∷ [])
+    ++ (on_side First (header_checks s)
+    ++ (on_side First (walk_checks s (geometry_start s))
+    ++ (on_side First (check NoLine (is_no_line (runs_of_blob s)) ∷ [])
+    ++ (on_side First (check WorkspaceTooSmall (too_small (runs_of_blob s) floats numbers) ∷ [])
+    ++ (check (no_side OutputTooShort) (ltb output point_bytes) ∷ [])))))
 
 -- ---- the outcome
 
 -- a point in the output, or a refusal
-unfoldable pub interpolated_report : Interpolated → Report
-interpolated_report interpolated.Blob = answering blob
-interpolated_report (interpolated.Refused r) = refusing r
+abbrev pub interpolated_report : Result Unit Refusal → Report
+interpolated_report (Ok u) = answering blob
+interpolated_report (Err r) = refusing r
 
 -- the point of a blob's line runs; none where they have no segment, which 14 refuses
 unfoldable pub point_of_blob : List ℕ → Float → Option Point
@@ -56,8 +55,8 @@ point_of_blob s fraction = interpolated_point fraction (segments_of (map_runs po
 
 -- the point in the output's first 37 bytes, rest unchanged
 unfoldable pub output_with : ℕ → Option Point → List ℕ → List ℕ
-output_with srid none output = output
-output_with srid (some p) output = point_blob srid p.x p.y p.z ++ drop point_bytes output
+output_with srid None output = output
+output_with srid (Some p) output = point_blob srid p.x p.y p.z ++ drop point_bytes output
 
 -- side 1's workspace once the blob is read into it
 unfoldable pub filled_one : List ℕ → Workspaces → Workspaces

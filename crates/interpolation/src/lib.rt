@@ -3,272 +3,135 @@
 // wholly decided.
 #![tactic(auto)]
 
-ghost use Rattle.std.specs.Prelude.{◌≡◌, false, ◌+◌, ◌*◌, ◌≤◌, ◌<◌, length};
-ghost use mathlib.Core.List.{foldl};
-ghost use Rattle.std.proofs.Math.Option.{some};
-ghost use Rattle.workspace.specs.Workspace.{floats_per_coordinate};
-ghost use Rattle.parts.specs.Stored.{points_from, stored_runs, Laid};
+ghost use Rattle.std.specs.Prelude.{◌≡◌, ◌<◌, length, Some};
 ghost use Rattle.outcomes.specs.Lent.{lent_one, left_one};
 ghost use Rattle.outcomes.specs.Operations.{outcome};
-ghost use Rattle.interpolation.specs.Interpolation.{segment, segments_of_line, segments_of, length_of};
+ghost use Rattle.interpolation.specs.Interpolation.{segment, segments_of, length_of};
 ghost use Rattle.interpolation.specs.Interpolation.{parameter_of, point_on, interpolated_point};
-ghost use Rattle.interpolation.specs.Operation.{out_of_range, interpolated_report, line_interpolate_point};
-ghost use Rattle.interpolation.specs.Inner.{no_line_by, line_checked_of, measuring, searching};
-ghost use Rattle.interpolation.specs.Inner.{not_measured, not_searched, ReadyToMeasure, PointRead};
+ghost use Rattle.refusals.specs.Checks.{first_of, refused_or};
+ghost use Rattle.blob.specs.Inner.{operand_of};
+ghost use Rattle.interpolation.specs.Operation.{out_of_range, interpolation_checks, interpolated_report, line_interpolate_point};
+ghost use Rattle.interpolation.specs.Inner.{no_line_by, measuring, measured_of, stop_of, ReadyToMeasure, PointRead};
 
-use blob::{HeaderRead, Lent, Operand, OperandRead, RoomChecked};
+use blob::{Lent, Operand};
 use gpb::POINT_BYTES;
+use parts::{Class, Stored};
 use primitives::Point;
-use refusals::Refusal;
+use refusals::{Reason, Refusal, Side};
 use workspace::{FLOATS_PER_COORDINATE, NUMBERS_PER_RUN};
 
-// A point blob in the output, or a refusal.
-#[derive(Clone, Copy)]
-pub enum Interpolated {
-    Blob,
-    Refused(Refusal),
-}
-
-// A call that refuses nothing: where the geometry starts, its coordinates and runs, the SRID's bits; or the refusal.
-#[derive(Clone, Copy)]
-enum Checked {
-    Accepted {
-        at: usize,
-        coords: usize,
-        runs: usize,
-        srid: u32,
-    },
-    Refused(Refusal),
-}
-
-// The first segment's start, once there is one, and the lengths added so far.
+// The first segment's start, and the lengths added so far.
 #[derive(Clone, Copy)]
 struct Measured {
-    pub started: bool,
     pub start: Point,
     pub total: f64,
 }
 
-// The segment looked at, what is walked before and after it, and whether the search stops there.
+// A segment, and what is walked before it.
 #[derive(Clone, Copy)]
-struct Search {
-    pub found: bool,
+struct Stop {
     pub walked: f64,
-    pub reached: f64,
     pub start: Point,
     pub end: Point,
 }
-
-// The kind of a line.
-const LINE: u32 = 2;
 
 // Whether a fraction is not within 0..1; a NaN is not.
 fn out_of_range(fraction: f64) -> bool
     ensures { result ≡ out_of_range fraction }
 {
-    if 0.0 <= fraction {
-        if fraction <= 1.0 { false } else { true }
-    } else {
-        true
-    }
+    !(0.0 <= fraction && fraction <= 1.0)
 }
 
 // 14: a point or face, or no segment. Runs of one coordinate each have no segment.
 fn is_no_line(o: Operand) -> bool
     ensures { result ≡ no_line_by o.coords o.runs o.others }
 {
-    let coords = o.coords;
-    let runs = o.runs;
-    if coords == runs {
-        return true;
-    }
-    0 < o.others
+    o.coords == o.runs || 0 < o.others
 }
 
-// Every check in order; floats, numbers and output are the lengths lent.
-fn check(s: &[u8], fraction: f64, floats: usize, numbers: usize, output: usize) -> Checked
-    ensures { result ≡ line_checked_of s.now fraction floats numbers output }
+// Every check in order; the output is its length.
+#[tactic(auto, using(crate::proofs::Order::first_of_both, crate::proofs::Order::no_line_of), unfolding(crate::specs::Operation::interpolation_checks, refusals::specs::Checks::first_of, refusals::specs::Checks::on_side))]
+fn check(s: &[u8], fraction: f64, lent: Lent, output: usize) -> Result<Operand, Refusal>
+    ensures { result ≡ refused_or (first_of (interpolation_checks s.now fraction lent.floats lent.numbers output)) (operand_of s.now) }
 {
     if out_of_range(fraction) {
-        return Checked::Refused(Refusal { number: 2, side: 0 });
+        return Err(Reason::FractionOutOfRange.of(Side::Neither));
     }
-    match blob::read_header(s, 1) {
-        HeaderRead::Refused(refusal) => Checked::Refused(refusal),
-        HeaderRead::Found(top) => match blob::read_walk(s, top, 1) {
-            OperandRead::Refused(refusal) => Checked::Refused(refusal),
-            OperandRead::Read(o) => {
-                if is_no_line(o) {
-                    return Checked::Refused(Refusal {
-                        number: 14,
-                        side: 1,
-                    });
-                }
-                let lent = Lent { floats, numbers };
-                match blob::check_room(o, lent, 1) {
-                    RoomChecked::Refused(refusal) => Checked::Refused(refusal),
-                    RoomChecked::Enough => {
-                        if output < POINT_BYTES {
-                            return Checked::Refused(Refusal {
-                                number: 16,
-                                side: 0,
-                            });
-                        }
-                        Checked::Accepted {
-                            at: o.at,
-                            coords: o.coords,
-                            runs: o.runs,
-                            srid: o.srid,
-                        }
-                    }
-                }
-            }
-        },
+    let top = blob::read_header(s, Side::First)?;
+    let o = blob::read_walk(s, top, Side::First)?;
+    if is_no_line(o) {
+        return Err(Reason::NoLine.of(Side::First));
     }
+    blob::check_room(o, lent, Side::First)?;
+    if output < POINT_BYTES {
+        return Err(Reason::OutputTooShort.of(Side::Neither));
+    }
+    Ok(o)
 }
 
 // The length of the segment from a to b.
+#[tactic(auto, unfolding(crate::specs::Interpolation::length_of))]
 fn segment_length(a: Point, b: Point) -> f64
     ensures { result ≡ length_of (segment a b) }
 {
-    primitives::norm(primitives::difference(b, a))
+    (b - a).norm()
 }
 
 // One more segment measured.
-fn measure(m: Measured, a: Point, b: Point) -> Measured
-    ensures { result ≡ measuring m (segment a b) }
+#[tactic(auto, unfolding(crate::specs::Inner::measuring, crate::specs::Interpolation::with_length))]
+fn measure(before: Option<Measured>, a: Point, b: Point) -> Measured
+    ensures { Some result ≡ measuring before (segment a b) }
 {
-    let total = m.total + segment_length(a, b);
-    let start = if m.started { m.start } else { a };
-    Measured {
-        started: true,
-        start,
-        total,
-    }
-}
-
-// The segments of a line measured: its points are count from place first on.
-fn measure_line(from: Measured, floats: &[f64], first: usize, count: usize) -> Measured
-    requires { floats_per_coordinate * (first + count) ≤ length floats.now }
-    ensures { result ≡ foldl measuring from (segments_of_line (points_from floats.now first count)) }
-{
-    let mut m = from;
-    let mut at = first;
-    let mut left = count;
-    while 1 < left {
-        m = measure(
-            m,
-            parts::point_at(floats, at),
-            parts::point_at(floats, at + 1),
-        );
-        at += 1;
-        left -= 1;
-    }
-    m
-}
-
-// All segments of a workspace measured, in order.
-fn measure_all(floats: &[f64], table: &[u32]) -> Measured
-    requires { Laid table.now floats.now }
-    ensures { result
-        ≡ foldl measuring not_measured (segments_of (stored_runs table.now floats.now)) }
-{
-    let runs = parts::run_count(table);
-    let zero = Point {
-        x: 0.0,
-        y: 0.0,
-        z: 0.0,
-    };
-    let mut m = Measured {
-        started: false,
-        start: zero,
-        total: 0.0,
-    };
-    let mut at = 0;
-    let mut r = 0;
-    while r < runs {
-        let kind = parts::kind_at(table, r);
-        let count = parts::count_at(table, r);
-        if kind == LINE {
-            m = measure_line(m, floats, at, count);
-        }
-        at += count;
-        r += 1;
-    }
-    m
-}
-
-// The next segment looked at.
-fn look_at(w: Search, target: f64, a: Point, b: Point) -> Search
-    requires { w.found ≡ false }
-    ensures { result ≡ searching target w (segment a b) }
-{
-    let reached = w.reached + segment_length(a, b);
-    Search {
-        found: reached >= target,
-        walked: w.reached,
-        reached,
+    let m = before.unwrap_or(Measured {
         start: a,
-        end: b,
+        total: 0.0,
+    });
+    Measured {
+        start: m.start,
+        total: m.total + segment_length(a, b),
     }
 }
 
-// The segments of a line looked at, until the search stops.
-fn search_line(from: Search, target: f64, floats: &[f64], first: usize, count: usize) -> Search
-    requires { floats_per_coordinate * (first + count) ≤ length floats.now }
-    ensures { result
-        ≡ foldl (searching target) from (segments_of_line (points_from floats.now first count)) }
+// All segments of a workspace measured, in order; nothing where there is none.
+#[tactic(auto, using(crate::proofs::Turns::measured_line, crate::proofs::Turns::measured_other, crate::proofs::Turns::measured_end, crate::proofs::Turns::measured_next, crate::proofs::Turns::measured_last), unfolding(crate::specs::Inner::measured_of))]
+fn measure_all(line: &Stored<'_>) -> Option<Measured>
+    ensures { result ≡ measured_of (segments_of line.now) }
 {
-    let mut w = from;
-    let mut at = first;
-    let mut left = count;
-    while 1 < left {
-        if w.found {
-            return w;
+    let mut measured = None;
+    for run in line.runs() {
+        if run.is_of(Class::Lines) {
+            for (a, b) in run.points.segments() {
+                measured = Some(measure(measured, a, b));
+            }
         }
-        w = look_at(
-            w,
-            target,
-            parts::point_at(floats, at),
-            parts::point_at(floats, at + 1),
-        );
-        at += 1;
-        left -= 1;
     }
-    w
+    measured
 }
 
-// All segments of a workspace looked at, in order, until the search stops: at the last by position, if at none before.
-fn search_all(target: f64, floats: &[f64], table: &[u32]) -> Search
-    requires { Laid table.now floats.now }
-    ensures { result
-        ≡ foldl (searching target) not_searched
-        (segments_of (stored_runs table.now floats.now)) }
+// The segment where a length is reached: at the last by position, if at none before; nothing where there is no segment.
+#[tactic(auto, using(crate::proofs::Turns::stop_line, crate::proofs::Turns::stop_other, crate::proofs::Turns::stop_end, crate::proofs::Turns::stop_here, crate::proofs::Turns::stop_later, crate::proofs::Turns::stop_last), unfolding(crate::specs::Inner::stop_of, crate::specs::Interpolation::with_length))]
+fn search_all(target: f64, line: &Stored<'_>) -> Option<Stop>
+    ensures { result ≡ stop_of target (segments_of line.now) }
 {
-    let runs = parts::run_count(table);
-    let zero = Point {
-        x: 0.0,
-        y: 0.0,
-        z: 0.0,
-    };
-    let mut w = Search {
-        found: false,
-        walked: 0.0,
-        reached: 0.0,
-        start: zero,
-        end: zero,
-    };
-    let mut at = 0;
-    let mut r = 0;
-    while r < runs {
-        let kind = parts::kind_at(table, r);
-        let count = parts::count_at(table, r);
-        if kind == LINE {
-            w = search_line(w, target, floats, at, count);
+    let mut last = None;
+    let mut reached = 0.0;
+    for run in line.runs() {
+        if run.is_of(Class::Lines) {
+            for (start, end) in run.points.segments() {
+                let here = Stop {
+                    walked: reached,
+                    start,
+                    end,
+                };
+                reached += segment_length(start, end);
+                if reached >= target {
+                    return Some(here);
+                }
+                last = Some(here);
+            }
         }
-        at += count;
-        r += 1;
     }
-    w
+    last
 }
 
 // The parameter of a point on a segment: how far along it is, as a part of the length.
@@ -286,23 +149,22 @@ fn parameter(rest: f64, whole: f64) -> f64
 fn point_on(target: f64, walked: f64, a: Point, b: Point) -> Point
     ensures { result ≡ point_on target walked (segment a b) }
 {
-    primitives::interpolated(a, b, parameter(target - walked, segment_length(a, b)))
+    a.interpolated(b, parameter(target - walked, segment_length(a, b)))
 }
 
 // The point at a fraction of the total length of a workspace's segments.
-fn point_along(fraction: f64, floats: &[f64], table: &[u32]) -> Point
-    requires laid { Laid table.now floats.now }
-    requires nonzero { 0 < length (segments_of (stored_runs table.now floats.now)) }
-    ensures { interpolated_point fraction (segments_of (stored_runs table.now floats.now))
-        ≡ some result }
+#[tactic(auto, using(crate::proofs::Passes::measured_some, crate::proofs::Passes::stop_some))]
+fn point_along(fraction: f64, line: &Stored<'_>) -> Point
+    requires { 0 < length (segments_of line.now) }
+    ensures { interpolated_point fraction (segments_of line.now) ≡ Some result }
 {
-    let m = measure_all(floats, table);
+    let m = measure_all(line).unwrap();
     if m.total == 0.0 {
         return m.start;
     }
     let target = fraction * m.total;
-    let w = search_all(target, floats, table);
-    point_on(target, w.walked, w.start, w.end)
+    let stop = search_all(target, line).unwrap();
+    point_on(target, stop.walked, stop.start, stop.end)
 }
 
 // The point of an accepted blob, once it is read into lent memory.
@@ -322,7 +184,8 @@ fn read_point(
     workspace::fill(s, at, floats, table);
     let ordinates = FLOATS_PER_COORDINATE * coords;
     let numbers = NUMBERS_PER_RUN * runs;
-    point_along(fraction, &floats[..ordinates], &table[..numbers])
+    let line = Stored::new(&floats[..ordinates], &table[..numbers]);
+    point_along(fraction, &line)
 }
 
 // The point at a fraction of the length of a line, or of a collection's lines one after the other.
@@ -332,21 +195,16 @@ pub fn st_3d_line_interpolate_point(
     floats: &mut [f64],
     table: &mut [u32],
     output: &mut [u8],
-) -> Interpolated
+) -> Result<(), Refusal>
     ensures whole_outcome { outcome (interpolated_report result) (left_one floats table) output.new
         ≡ line_interpolate_point s.now fraction (lent_one floats table) output.old }
 {
-    match check(s, fraction, floats.len(), table.len(), output.len()) {
-        Checked::Refused(refusal) => Interpolated::Refused(refusal),
-        Checked::Accepted {
-            at,
-            coords,
-            runs,
-            srid,
-        } => {
-            let p = read_point(s, fraction, at, coords, runs, floats, table);
-            gpb::write_point(output, srid, p.x, p.y, p.z);
-            Interpolated::Blob
-        }
-    }
+    let lent = Lent {
+        floats: floats.len(),
+        numbers: table.len(),
+    };
+    let o = check(s, fraction, lent, output.len())?;
+    let p = read_point(s, fraction, o.at, o.coords, o.runs, floats, table);
+    gpb::write_point(output, o.srid, p);
+    Ok(())
 }

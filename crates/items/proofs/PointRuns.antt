@@ -6,7 +6,8 @@ use Prim.Native.Nat.{ℕ}
 use borrow.Author.Tests.{eqb-true}
 use Rattle.coords.specs.Parts.{Run, run, map_runs, is_point, is_line, is_face, PointRunsOnly, of_kind, segment_ends, vertices_of}
 use Rattle.primitives.specs.declared.Point.{Point}
-use Rattle.items.specs.Items.{point, point_items, segment_items, triangle_items, items_of_kind, items_of}
+use Rattle.items.specs.declared.Item.TheVariants.{Point as point}
+use Rattle.items.specs.Items.{point_items, segment_items, triangle_items, items_of_kind, items_of}
 
 no_line : (kind : ℕ) → is_point kind ≡ true → is_line kind ≡ false
 no_line kind e = rw (eqb-true kind 1 e)

@@ -10,18 +10,20 @@ use Rattle.coords.specs.Parts.{segments_by}
 use Rattle.workspace.specs.Workspace.{numbers_per_run}
 use Rattle.parts.specs.Stored.{stored_point, points_from, runs_from, run_count, kind_at, count_at}
 use Rattle.parts.proofs.Turns.{runs_next, runs_none}
-use Rattle.items.specs.Items.{Item, segment, triangle, point_items, segment_items, triangle_items, items_of_kind}
+use Rattle.items.specs.declared.Item.{Item}
+use Rattle.items.specs.declared.Item.TheVariants.{Segment as segment}
+use Rattle.items.specs.Items.{fan, point_items, segment_items, triangle_items, items_of_kind}
 use Rattle.items.specs.Inner.{is_of_class, items_by, class_items, item_count, item_at}
-use Rattle.items.specs.declared.Class.{Class}
-use Rattle.items.specs.declared.Class.TheVariants.{Points, Segments, Triangles}
+use Rattle.parts.specs.declared.Class.{Class}
+use Rattle.parts.specs.declared.Class.TheVariants.{Points, Lines, Faces}
 
 -- ---- the items of a run
 
 -- m items of a run whose points start at place at, from item j on
 items_from : Class → List Float → ℕ → ℕ → ℕ → List Item
 items_from Points floats at j m = point_items (points_from floats (at + j) m)
-items_from Segments floats at j m = segments_by segment (stored_point floats (at + j) ∷ points_from floats (at + j + 1) m)
-items_from Triangles floats at j m = segments_by (triangle (stored_point floats at)) (stored_point floats (at + j + 1) ∷ points_from floats (at + j + 2) m)
+items_from Lines floats at j m = segments_by segment (stored_point floats (at + j) ∷ points_from floats (at + j + 1) m)
+items_from Faces floats at j m = segments_by (fan (stored_point floats at)) (stored_point floats (at + j + 1) ∷ points_from floats (at + j + 2) m)
 
 -- the items of a run of n points, from the first on
 items_start : (class : Class) (floats : List Float) (at n : ℕ) → items_by class (points_from floats at n) ≡ items_from class floats at 0 (item_count class n)
@@ -29,14 +31,14 @@ unfolding points_from segment_items triangle_items segments_by items_from
 items_start Points floats at n =
     let e : at + 0 ≡ at = omega arith in
     rw e
-items_start Segments floats at zero = refl
-items_start Segments floats at (suc n) =
+items_start Lines floats at zero = refl
+items_start Lines floats at (suc n) =
     let e : at + 0 ≡ at = omega arith in
     let f : suc n - 1 ≡ n = omega arith in
     rw (e, f)
-items_start Triangles floats at zero = refl
-items_start Triangles floats at (suc zero) = refl
-items_start Triangles floats at (suc (suc n)) =
+items_start Faces floats at zero = refl
+items_start Faces floats at (suc zero) = refl
+items_start Faces floats at (suc (suc n)) =
     let e : at + 0 ≡ at = omega arith in
     let f : suc (suc n) - 2 ≡ n = omega arith in
     let g : at + 1 + 1 ≡ at + 2 = omega arith in
@@ -48,10 +50,10 @@ unfolding point_items points_from segments_by items_from
 items_next Points floats at j m =
     let e : at + (j + 1) ≡ at + j + 1 = omega arith in
     rw e
-items_next Segments floats at j m =
+items_next Lines floats at j m =
     let e : at + (j + 1) ≡ at + j + 1 = omega arith in
     rw e
-items_next Triangles floats at j m =
+items_next Faces floats at j m =
     let e : at + (j + 1) + 1 ≡ at + j + 2 = omega arith in
     let f : at + (j + 1) + 2 ≡ at + j + 2 + 1 = omega arith in
     rw (e, f)
@@ -76,8 +78,8 @@ module _ (class : Class) (floats : List Float) (at n : ℕ) where
   none_from : (d : Class) (j : ℕ) → items_from d floats at j 0 ≡ []
   unfolding items_from point_items points_from segments_by
   none_from Points j = refl
-  none_from Segments j = refl
-  none_from Triangles j = refl
+  none_from Lines j = refl
+  none_from Faces j = refl
 
   pub left_none : (j : ℕ) → item_count class n ≤ j → items_left class floats at n j ≡ []
   unfolding items_left

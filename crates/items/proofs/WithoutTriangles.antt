@@ -6,12 +6,14 @@ use Prim.Native.Nat.{ℕ}
 use Rattle.coords.specs.Parts.{Run, run, is_point, is_line, is_face, segments_by}
 use Rattle.primitives.specs.declared.Point.{Point}
 use Rattle.extremes.proofs.Lists.{Each, each_append, all_mapped}
-use Rattle.items.specs.Items.{Item, point, segment, triangle, point_items, segment_items, triangle_items, items_of_kind, items_of}
+use Rattle.items.specs.declared.Item.{Item}
+use Rattle.items.specs.declared.Item.TheVariants.{Point as point, Segment as segment, Triangle as triangle}
+use Rattle.items.specs.Items.{point_items, segment_items, triangle_items, items_of_kind, items_of}
 
 abbrev pub NoTriangle : Item → Type 0
 NoTriangle (point p) = Unit {0}
 NoTriangle (segment a b) = Unit {0}
-NoTriangle (triangle a b c) = ⊥
+NoTriangle (triangle t) = ⊥
 
 -- items of runs that give no triangle
 of_kind : (test : ℕ → Bool) (f : List Point → List Item) → ((ps : List Point) → Each NoTriangle (f ps)) → (rs : List (Run Point)) → Each NoTriangle (items_of_kind test f rs)

@@ -1,53 +1,39 @@
 // Items of the closest sweep, by value, and what two of them offer.
 #![tactic(auto)]
 
-ghost use Rattle.std.specs.Prelude.{◌≡◌, true, ◌+◌, ◌-◌, ◌*◌, ◌≤◌, ◌<◌, length};
+ghost use Rattle.std.specs.Prelude.{◌≡◌, true, ◌+◌, ◌*◌, ◌≤◌, ◌<◌, length};
 ghost use Rattle.workspace.specs.Workspace.{floats_per_coordinate};
-ghost use Rattle.primitives.specs.Boxes.{least_squared_gap};
-ghost use Rattle.extremes.specs.InnerBest.{best_of, Sound, Keeps};
-ghost use Rattle.measures.specs.InnerOffers.{offered_all, AllSettled};
-ghost use Rattle.items.specs.Items.{point, segment, triangle, box_of_item};
+ghost use Rattle.extremes.specs.Sweeps.{shorter, taking};
+ghost use Rattle.measures.specs.Measures.{point_triangle};
+ghost use Rattle.measures.specs.InnerOffers.{offered_all, flipped_if, AllSettled};
+ghost use Rattle.items.specs.declared.Item.TheVariants.{Segment as segment, Triangle as triangle};
+ghost use Rattle.items.specs.Items.{box_of_item};
 ghost use Rattle.items.specs.Candidates.{candidates_of};
-ghost use Rattle.items.specs.Inner.{item_of, is_of_class, item_count, item_at};
-ghost use Rattle.items.specs.InnerRepeats.{first_before, second_before};
+ghost use Rattle.items.specs.Inner.{is_of_class, item_count, item_at};
+ghost use Rattle.items.specs.InnerRepeats.{first_before, second_before, HandsOn};
 
-use extremes::Best;
-use measures::{Triangle, UnrootedWitness};
-use primitives::{Aabb, Point};
+use extremes::{Best, Closest};
+use measures::{Follows, Triangle};
+use parts::Class;
+use primitives::{Aabb, Point, UnrootedWitness};
 
-// The classes of items.
+// What the closest sweep pairs off.
 #[derive(Clone, Copy)]
-pub enum Class {
-    Points,
-    Segments,
-    Triangles,
+pub enum Item {
+    Point(Point),
+    Segment(Point, Point),
+    Triangle(Triangle),
 }
 
-// An item by its class: a point is a, a segment a b, a triangle a b c.
-#[derive(Clone, Copy)]
-pub struct Shape {
-    pub class: Class,
-    pub a: Point,
-    pub b: Point,
-    pub c: Point,
-}
-
-// Whether a run of the kind holds items of the class.
+// Whether a run of the kind holds items of the class. By the kind's number, without the table of kinds: it is asked for each item.
 pub fn is_of_class(class: Class, kind: u32) -> bool
     ensures { result ≡ is_of_class class kind }
 {
     match class {
         Class::Points => kind == 1,
-        Class::Segments => kind == 2,
-        Class::Triangles => kind == 3 || kind == 17,
+        Class::Lines => kind == 2,
+        Class::Faces => kind == 3 || kind == 17,
     }
-}
-
-// n less k, and 0 where k is more.
-fn less(n: usize, k: usize) -> usize
-    ensures { result ≡ n - k }
-{
-    if k < n { n - k } else { 0 }
 }
 
 // How many items of the class a run of n points gives.
@@ -56,192 +42,127 @@ pub fn item_count(class: Class, n: usize) -> usize
 {
     match class {
         Class::Points => n,
-        Class::Segments => less(n, 1),
-        Class::Triangles => less(n, 2),
+        Class::Lines => n.saturating_sub(1),
+        Class::Faces => n.saturating_sub(2),
     }
 }
 
 // Item j of a run of n points that start at place at.
-pub fn item_at(class: Class, floats: &[f64], at: usize, n: usize, j: usize) -> Shape
+pub fn item_at(class: Class, floats: &[f64], at: usize, n: usize, j: usize) -> Item
     requires { (floats_per_coordinate * (at + n) ≤ length floats.now) × (j < item_count class n) }
-    ensures { item_of result ≡ item_at class floats.now at j }
+    ensures { result ≡ item_at class floats.now at j }
 {
     let next = at + j;
     match class {
-        Class::Points => {
-            let a = parts::point_at(floats, next);
-            Shape {
-                class,
-                a,
-                b: a,
-                c: a,
-            }
-        }
-        Class::Segments => {
-            let a = parts::point_at(floats, next);
-            let b = parts::point_at(floats, next + 1);
-            Shape { class, a, b, c: b }
-        }
-        Class::Triangles => {
-            let a = parts::point_at(floats, at);
-            let b = parts::point_at(floats, next + 1);
-            let c = parts::point_at(floats, next + 2);
-            Shape { class, a, b, c }
-        }
+        Class::Points => Item::Point(parts::point_at(floats, next)),
+        Class::Lines => Item::Segment(
+            parts::point_at(floats, next),
+            parts::point_at(floats, next + 1),
+        ),
+        Class::Faces => Item::Triangle(Triangle {
+            a: parts::point_at(floats, at),
+            b: parts::point_at(floats, next + 1),
+            c: parts::point_at(floats, next + 2),
+        }),
     }
 }
 
-// The box of a segment.
-fn segment_box(a: Point, b: Point) -> Aabb
-    ensures { result ≡ box_of_item (segment a b) }
+// The start of a segment with a triangle, unless it was measured before.
+fn segment_start(
+    best: Best<Closest>,
+    s: Point,
+    t: Triangle,
+    flip: bool,
+    again: bool,
+) -> Best<Closest>
+    requires { again ≡ true → taking shorter best (flipped_if flip (point_triangle s t)) ≡ best }
+    ensures { result ≡ taking shorter best (flipped_if flip (point_triangle s t)) }
 {
-    Aabb::point(a).add(b)
-}
-
-// The box of a triangle.
-fn triangle_box(a: Point, b: Point, c: Point) -> Aabb
-    ensures { result ≡ box_of_item (triangle a b c) }
-{
-    segment_box(a, b).add(c)
-}
-
-// The box of an item.
-pub fn box_of(s: Shape) -> Aabb
-    ensures { result ≡ box_of_item (item_of s) }
-{
-    let class = s.class;
-    let a = s.a;
-    let b = s.b;
-    let c = s.c;
-    match class {
-        Class::Points => Aabb::point(a),
-        Class::Segments => segment_box(a, b),
-        Class::Triangles => triangle_box(a, b, c),
+    if again {
+        return best;
     }
-}
-
-// The least squared gap of a box to item j of a run of n points that start at place at.
-pub fn gap_to(class: Class, a_box: Aabb, floats: &[f64], at: usize, n: usize, j: usize) -> f64
-    requires { (floats_per_coordinate * (at + n) ≤ length floats.now) × (j < item_count class n) }
-    ensures { result ≡ least_squared_gap a_box (box_of_item (item_at class floats.now at j)) }
-{
-    let next = at + j;
-    match class {
-        Class::Points => a_box.min_dist_sq(Aabb::point(parts::point_at(floats, next))),
-        Class::Segments => {
-            let a = parts::point_at(floats, next);
-            let b = parts::point_at(floats, next + 1);
-            a_box.min_dist_sq(segment_box(a, b))
-        }
-        Class::Triangles => {
-            let first = parts::point_at(floats, at);
-            let b = parts::point_at(floats, next + 1);
-            let c = parts::point_at(floats, next + 2);
-            a_box.min_dist_sq(triangle_box(first, b, c))
-        }
-    }
-}
-
-// A point of A with an item of B.
-fn from_point(best: Best, p: Point, i: Shape) -> Best
-    requires { Sound best }
-    ensures { Keeps result (offered_all (best_of best) (candidates_of (point p) (item_of i))) }
-{
-    let class = i.class;
-    let a = i.a;
-    let b = i.b;
-    let c = i.c;
-    match class {
-        Class::Points => measures::offered(best, UnrootedWitness::between(p, a), false),
-        Class::Segments => measures::offered(best, measures::pt_seg(p, a, b), false),
-        Class::Triangles => measures::pt_tri(best, p, Triangle { a, b, c }, false),
-    }
+    measures::pt_tri(best, s, t, flip)
 }
 
 // A segment of A with a triangle of B.
-fn segment_triangle(best: Best, s: Point, e: Point, t: Triangle, follows_a: bool) -> Best
-    requires sound { Sound best }
-    requires all_settled { follows_a ≡ true → AllSettled (best_of best) (first_before (segment s e) (triangle t.a t.b t.c)) }
-    ensures { Keeps result (offered_all (best_of best) (candidates_of (segment s e) (triangle t.a t.b t.c))) }
+#[tactic(auto, unfolding(crate::specs::Candidates::candidates_of, crate::specs::InnerRepeats::first_before, measures::specs::InnerOffers::AllSettled))]
+fn segment_triangle(
+    best: Best<Closest>,
+    s: Point,
+    e: Point,
+    t: Triangle,
+    follows: bool,
+) -> Best<Closest>
+    requires { follows ≡ true → AllSettled best (first_before (segment s e) (triangle t)) }
+    ensures { result ≡ offered_all best (candidates_of (segment s e) (triangle t)) }
 {
-    let start = if follows_a {
-        best
-    } else {
-        measures::pt_tri(best, s, t, false)
-    };
-    let ends = measures::pt_tri(start, e, t, false);
+    let first = segment_start(best, s, t, false, follows);
+    let ends = measures::pt_tri(first, e, t, false);
     measures::seg_edges(ends, s, e, t, false)
 }
 
-// A segment of A with an item of B.
-fn from_segment(best: Best, s: Point, e: Point, i: Shape, follows_a: bool) -> Best
-    requires sound { Sound best }
-    requires all_settled { follows_a ≡ true → AllSettled (best_of best) (first_before (segment s e) (item_of i)) }
-    ensures { Keeps result (offered_all (best_of best) (candidates_of (segment s e) (item_of i))) }
-{
-    let class = i.class;
-    let a = i.a;
-    let b = i.b;
-    let c = i.c;
-    match class {
-        Class::Points => measures::offered(best, measures::pt_seg(a, s, e), true),
-        Class::Segments => measures::offered(best, measures::seg_seg(s, e, a, b), false),
-        Class::Triangles => segment_triangle(best, s, e, Triangle { a, b, c }, follows_a),
-    }
-}
-
 // A triangle of A with a segment of B.
-fn triangle_segment(best: Best, t: Triangle, s: Point, e: Point, follows_b: bool) -> Best
-    requires sound { Sound best }
-    requires all_settled { follows_b ≡ true → AllSettled (best_of best) (second_before (triangle t.a t.b t.c) (segment s e)) }
-    ensures { Keeps result (offered_all (best_of best) (candidates_of (triangle t.a t.b t.c) (segment s e))) }
+#[tactic(auto, unfolding(crate::specs::Candidates::candidates_of, crate::specs::InnerRepeats::second_before, measures::specs::InnerOffers::AllSettled))]
+fn triangle_segment(
+    best: Best<Closest>,
+    t: Triangle,
+    s: Point,
+    e: Point,
+    follows: bool,
+) -> Best<Closest>
+    requires { follows ≡ true → AllSettled best (second_before (triangle t) (segment s e)) }
+    ensures { result ≡ offered_all best (candidates_of (triangle t) (segment s e)) }
 {
-    let start = if follows_b {
-        best
-    } else {
-        measures::pt_tri(best, s, t, true)
-    };
-    let ends = measures::pt_tri(start, e, t, true);
-    let a = t.a;
-    let b = t.b;
-    let c = t.c;
-    let first = measures::offered(ends, measures::seg_seg(a, b, s, e), false);
-    let second = measures::offered(first, measures::seg_seg(b, c, s, e), false);
-    measures::offered(second, measures::seg_seg(c, a, s, e), false)
+    let first = segment_start(best, s, t, true, follows);
+    measures::pt_tri(first, e, t, true)
+        .offer(measures::seg_seg(t.a, t.b, s, e))
+        .offer(measures::seg_seg(t.b, t.c, s, e))
+        .offer(measures::seg_seg(t.c, t.a, s, e))
 }
 
-// A triangle of A with an item of B.
-fn from_triangle(best: Best, t: Triangle, i: Shape, follows_a: bool, follows_b: bool) -> Best
-    requires sound { Sound best }
-    requires all_settled { follows_a ≡ true → AllSettled (best_of best) (first_before (triangle t.a t.b t.c) (item_of i)) }
-    requires all_settled_2 { follows_b ≡ true → AllSettled (best_of best) (second_before (triangle t.a t.b t.c) (item_of i)) }
-    ensures { Keeps result (offered_all (best_of best) (candidates_of (triangle t.a t.b t.c) (item_of i))) }
-{
-    let class = i.class;
-    let a = i.a;
-    let b = i.b;
-    let c = i.c;
-    match class {
-        Class::Points => measures::pt_tri(best, a, t, true),
-        Class::Segments => triangle_segment(best, t, a, b, follows_b),
-        Class::Triangles => measures::tri_tri(best, t, Triangle { a, b, c }, follows_a, follows_b),
+impl Item {
+    #[inline(always)]
+    #[tactic(auto, using(extremes::proofs::Repeats::union_with_point), unfolding(crate::specs::Items::box_of_item))]
+    pub fn bounds(self) -> Aabb
+        ensures { result ≡ box_of_item self }
+    {
+        match self {
+            Item::Point(p) => Aabb::point(p),
+            Item::Segment(a, b) => Aabb::point(a).add(b),
+            Item::Triangle(t) => Aabb::point(t.a).add(t.b).add(t.c),
+        }
     }
-}
 
-// The candidates of an item of A with an item of B, offered in order, less those that the item before o (follows_a) or before i (follows_b) in its run offered.
-pub fn offer(best: Best, o: Shape, i: Shape, follows_a: bool, follows_b: bool) -> Best
-    requires sound { Sound best }
-    requires all_settled { follows_a ≡ true → AllSettled (best_of best) (first_before (item_of o) (item_of i)) }
-    requires all_settled_2 { follows_b ≡ true → AllSettled (best_of best) (second_before (item_of o) (item_of i)) }
-    ensures { Keeps result (offered_all (best_of best) (candidates_of (item_of o) (item_of i))) }
-{
-    let class = o.class;
-    let a = o.a;
-    let b = o.b;
-    let c = o.c;
-    match class {
-        Class::Points => from_point(best, a, i),
-        Class::Segments => from_segment(best, a, b, i, follows_a),
-        Class::Triangles => from_triangle(best, Triangle { a, b, c }, i, follows_a, follows_b),
+    // The candidates of an item of A with an item of B, offered in order, less those that the item before either offered, where that one was measured and this one follows it in its run.
+    #[tactic(auto, unfolding(crate::specs::Candidates::candidates_of, crate::specs::InnerRepeats::first_before, crate::specs::InnerRepeats::second_before))]
+    pub fn offer(self, best: Best<Closest>, other: Item, follows: Follows) -> Best<Closest>
+        requires { HandsOn self other follows best }
+        ensures { result ≡ offered_all best (candidates_of self other) }
+    {
+        match (self, other) {
+            (Item::Point(p), Item::Point(q)) => best.offer(UnrootedWitness::between(p, q)),
+            (Item::Point(p), Item::Segment(u, v)) => best.offer(measures::pt_seg(p, u, v)),
+            (Item::Point(p), Item::Triangle(u)) => measures::pt_tri(best, p, u, false),
+            (Item::Segment(s, e), Item::Point(q)) => best.offer(measures::pt_seg(
+                q, s, e,
+            ).flipped()),
+            (Item::Segment(s, e), Item::Segment(u, v)) => best.offer(measures::seg_seg(s, e, u, v)),
+            (Item::Segment(s, e), Item::Triangle(u)) => segment_triangle(
+                best,
+                s,
+                e,
+                u,
+                follows.first,
+            ),
+            (Item::Triangle(t), Item::Point(q)) => measures::pt_tri(best, q, t, true),
+            (Item::Triangle(t), Item::Segment(u, v)) => triangle_segment(
+                best,
+                t,
+                u,
+                v,
+                follows.second,
+            ),
+            (Item::Triangle(t), Item::Triangle(u)) => measures::tri_tri(best, t, u, follows),
+        }
     }
 }

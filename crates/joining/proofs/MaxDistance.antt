@@ -2,7 +2,7 @@
 use mathlib.Core.Path.{◌≡◌, refl}
 use mathlib.Core.Logic.{inl, inr}
 use mathlib.Core.List.{List, [], ◌∷◌, map}
-use mathlib.Core.Option.{Option, none, some}
+use Rattle.std.specs.Prelude.{Option, None, Some}
 use Prim.Native.Nat.{ℕ}
 use Rattle.refusals.specs.Checks.{first_of}
 use Rattle.refusals.specs.declared.Refusal.{Refusal}
@@ -28,13 +28,11 @@ use Rattle.joining.proofs.GreatestDistance.{Counts, Under, Never, Greatest, no_p
 abbrev farthest_among : List Coordinate → List Coordinate → Option Witness
 farthest_among ls rs = farthest_of (map point_of ls) (map point_of rs)
 
-greatest_none : (ls rs : List Coordinate) → Each Never (pairs_of ls rs) → farthest_among ls rs ≡ none → Greatest (pairs_of ls rs) (distance_value (farthest_among ls rs))
-unfolding distance_value
+greatest_none : (ls rs : List Coordinate) → Each Never (pairs_of ls rs) → farthest_among ls rs ≡ None → Greatest (pairs_of ls rs) (distance_value (farthest_among ls rs))
 greatest_none ls rs e is = rw is (no_pair e)
 
-greatest_first : (ls rs : List Coordinate) → Each Counts (pairs_of ls rs) → IsFirst (distance_of point_of) at_most (pairs_of ls rs) (λ p. farthest_among ls rs ≡ some (measured point_of p))
+greatest_first : (ls rs : List Coordinate) → Each Counts (pairs_of ls rs) → IsFirst (distance_of point_of) at_most (pairs_of ls rs) (λ p. farthest_among ls rs ≡ Some (measured point_of p))
     → Greatest (pairs_of ls rs) (distance_value (farthest_among ls rs))
-unfolding distance_value
 greatest_first ls rs e i =
     rw i.given
     (pair_at i.k i.pair i.first.there i.first.extreme.counts
@@ -50,19 +48,18 @@ sweep_greatest (a ∷ ls) (b ∷ rs) e =
 -- ---- what an accepted call answers
 
 answered : (s c : List ℕ) (w : Workspaces) (v : Value) → (max_distance s c w).report ≡ answering v → v ≡ distance_value (farthest_pair s c)
-unfolding max_distance unless
+unfolding max_distance
 answered s c w v = go (first_of (lent_checks s c w))
   where
     go : (x : Option Refusal) → (unless x (outcome (answering (distance_value (farthest_pair s c))) (filled s c w) []) w []).report ≡ answering v → v ≡ distance_value (farthest_pair s c)
-    go none h = cc
-    go (some r) h = cc
+    go None h = cc
+    go (Some r) h = cc
 
 -- the pairs of two blobs
 abbrev pairs_between : List ℕ → List ℕ → List (Pair Coordinate)
 pairs_between s c = pairs_of (vertices_of_blob s) (vertices_of_blob c)
 
 answered_greatest : (s c : List ℕ) → Each Counts (pairs_between s c) → (w : Workspaces) (v : Value) → (max_distance s c w).report ≡ answering v → Greatest (pairs_between s c) v
-unfolding farthest_pair
 answered_greatest s c e w v h = rw (answered s c w v h) (sweep_greatest (vertices_of_blob s) (vertices_of_blob c) e)
 
 -- of three calls, where the pairs of the first are those of the other two

@@ -2,7 +2,6 @@
 use mathlib.Core.Path.{◌≡◌, refl, sym, ap, ◌∙◌}
 use mathlib.Core.Bool.{Bool, true, false}
 use mathlib.Core.List.{List}
-use mathlib.Core.Option.{none, none-ne-some}
 use Prim.Native.Nat.{ℕ, suc, ◌-◌, ◌<◌, ◌≤◌, max}
 use native.Mathlib.Nat.{max-le, le-max_left, le-max_right}
 use native.Mathlib.Omega.{arith}
@@ -10,14 +9,16 @@ use lib.Dec.{ltb}
 use lib.ListN.{length}
 use lib.Seq.{length-slice}
 use borrow.Author.Tests.{ltb-true, ltb-false, lt-ltb, le-ltb}
+use Rattle.std.specs.Prelude.{None, Result, Ok, Err, is_err}
+use Rattle.std.proofs.lemmas.Option.{none-some}
 use Rattle.refusals.specs.Checks.{first_of}
+use Rattle.refusals.specs.declared.Reason.{Reason}
 use Rattle.gpb.specs.Header.{geometry_start}
 use Rattle.coords.specs.Walk.{Geometry, Parsed, ok, refused, walk_of, all_levels}
 use Rattle.coords.specs.Levels.{deepest_level}
 use Rattle.coords.specs.Refusals.{walk_checks}
 use Rattle.coords.specs.Counts.{counts_of}
 use Rattle.coords.specs.declared.Counts.{Counts}
-use Rattle.coords.specs.declared.Counts.TheVariants as counts
 use Rattle.coords.proofs.Refusals.{refused_is_given}
 use Rattle.coords.proofs.Counted.{counted_refused, counted_accepted}
 use Rattle.coords.proofs.Levels.{deepest_below, walk_with_levels}
@@ -31,12 +32,12 @@ pub record WasRead (s : List ℕ) : Type 0 where
   pub end : ℕ
   pub walk : walk_of_blob s ≡ ok tree end
 
-pub was_read : (s : List ℕ) → first_of (walk_checks s (geometry_start s)) ≡ none → WasRead s
+pub was_read : (s : List ℕ) → first_of (walk_checks s (geometry_start s)) ≡ None → WasRead s
 was_read s h = go (walk_of_blob s) refl
   where
     go : (w : Parsed Geometry) → walk_of_blob s ≡ w → WasRead s
     go (ok g end) e = record { tree = g; end = end; walk = e }
-    go (refused k) e = absurd (none-ne-some k (sym h ∙ refused_is_given s (geometry_start s) k e))
+    go (refused k) e = absurd (none-some k (sym h ∙ refused_is_given s (geometry_start s) k e))
 
 -- ---- its bytes
 
@@ -45,7 +46,7 @@ pub record Lies (s : List ℕ) : Type 0 where
   pub within : walk_end (walk_of_blob s) ≤ length s
   pub size : length (own_bytes s) ≡ walk_end (walk_of_blob s) - geometry_start s
 
-pub lies : (s : List ℕ) → first_of (walk_checks s (geometry_start s)) ≡ none → Lies s
+pub lies : (s : List ℕ) → first_of (walk_checks s (geometry_start s)) ≡ None → Lies s
 unfolding own_bytes walk_end
 lies s h =
     let r = was_read s h in
@@ -61,35 +62,41 @@ lies s h =
 -- ---- its levels
 
 -- a walk with one level less refuses exactly a geometry that has a level 32
-module _ (s : List ℕ) (at : ℕ) (starts : at ≡ geometry_start s) (h : first_of (walk_checks s (geometry_start s)) ≡ none) (o : Counts) (p : o ≡ counts_of (walk_of 32 s at)) where
-  deepest_is : deepest_of (walk_of_blob s) ≡ deepest_level (was_read s h).tree
-  unfolding deepest_of
-  deepest_is = ap deepest_of (was_read s h).walk
+pub last_level : (s : List ℕ) (at : ℕ) → at ≡ geometry_start s → first_of (walk_checks s (geometry_start s)) ≡ None → {o : Result Counts Reason} → o ≡ counts_of (walk_of 32 s at) → is_err o ≡ ltb 31 (deepest_of (walk_of_blob s))
+unfolding deepest_of
+last_level s at starts h {o} p = go o refl
+  where
+    deepest_is : deepest_of (walk_of_blob s) ≡ deepest_level (was_read s h).tree
+    deepest_is = ap deepest_of (was_read s h).walk
 
-  same_start : walk_of 32 s at ≡ walk_of 32 s (geometry_start s)
-  same_start = ap (walk_of 32 s) starts
+    same_start : walk_of 32 s at ≡ walk_of 32 s (geometry_start s)
+    same_start = ap (walk_of 32 s) starts
 
-  pub reaches : (k : ℕ) → o ≡ counts.Refused k → true ≡ ltb 31 (deepest_of (walk_of_blob s))
-  reaches k q =
-      let r = was_read s h in
-      let no : walk_of 32 s (geometry_start s) ≡ refused k = sym same_start ∙ counted_refused (walk_of 32 s at) k o p q in
-      let deep : deepest_level r.tree < 32 → ⊥ = λ l. (let yes = walk_with_levels all_levels 32 s (geometry_start s) r.tree r.end r.walk l in let z : ◌≡◌ {A = ℕ} 0 1 = cc in omega arith) in
-      sym (ap (ltb 31) deepest_is ∙ go (ltb 31 (deepest_level r.tree)) refl deep)
-    where
-      go : (t : Bool) → ltb 31 (deepest_level (was_read s h).tree) ≡ t → (deepest_level (was_read s h).tree < 32 → ⊥) → t ≡ true
-      go true e d = refl
-      go false e d = absurd (d (omega (arith, ltb-false 31 (deepest_level (was_read s h).tree) e)))
+    reaches : (k : Reason) → o ≡ Err k → true ≡ ltb 31 (deepest_of (walk_of_blob s))
+    reaches k q =
+        let r = was_read s h in
+        let no : walk_of 32 s (geometry_start s) ≡ refused k = sym same_start ∙ counted_refused (walk_of 32 s at) k (sym p ∙ q) in
+        let deep : deepest_level r.tree < 32 → ⊥ = λ l. (let yes = walk_with_levels all_levels 32 s (geometry_start s) r.tree r.end r.walk l in cc) in
+        sym (ap (ltb 31) deepest_is ∙ reached (ltb 31 (deepest_level r.tree)) refl deep)
+      where
+        reached : (t : Bool) → ltb 31 (deepest_level (was_read s h).tree) ≡ t → (deepest_level (was_read s h).tree < 32 → ⊥) → t ≡ true
+        reached true e d = refl
+        reached false e d = absurd (d (omega (arith, ltb-false 31 (deepest_level (was_read s h).tree) e)))
 
-  pub reaches_not : (a b c e : ℕ) → o ≡ counts.Accepted a b c e → false ≡ ltb 31 (deepest_of (walk_of_blob s))
-  reaches_not a b c e q =
-      let r = was_read s h in
-      let n = counted_accepted (walk_of 32 s at) a b c e o p q in
-      let yes : walk_of 32 s (geometry_start s) ≡ ok n.tree e = sym same_start ∙ n.read in
-      let few = deepest_below 32 s (geometry_start s) n.tree e yes in
-      let same = walk_with_levels 32 all_levels s (geometry_start s) n.tree e yes (omega (arith, few)) in
-      let one : ok n.tree e ≡ ok r.tree r.end = sym same ∙ r.walk in
-      let trees : n.tree ≡ r.tree = cc in
-      sym (ap (ltb 31) (deepest_is ∙ ap deepest_level (sym trees)) ∙ le-ltb 31 (deepest_level n.tree) (omega (arith, few)))
+    reaches_not : (c : Counts) → o ≡ Ok c → false ≡ ltb 31 (deepest_of (walk_of_blob s))
+    reaches_not c q =
+        let r = was_read s h in
+        let n = counted_accepted (walk_of 32 s at) c (sym p ∙ q) in
+        let yes : walk_of 32 s (geometry_start s) ≡ ok n.tree c.end = sym same_start ∙ n.read in
+        let few = deepest_below 32 s (geometry_start s) n.tree c.end yes in
+        let same = walk_with_levels 32 all_levels s (geometry_start s) n.tree c.end yes (omega (arith, few)) in
+        let one : ok n.tree c.end ≡ ok r.tree r.end = sym same ∙ r.walk in
+        let trees : n.tree ≡ r.tree = cc in
+        sym (ap (ltb 31) (deepest_is ∙ ap deepest_level (sym trees)) ∙ le-ltb 31 (deepest_level n.tree) (omega (arith, few)))
+
+    go : (x : Result Counts Reason) → o ≡ x → is_err o ≡ ltb 31 (deepest_of (walk_of_blob s))
+    go (Err k) q = rw q (reaches k q)
+    go (Ok c) q = rw q (reaches_not c q)
 
 -- ---- the levels of a join
 

@@ -2,7 +2,7 @@
 use mathlib.Core.Path.{◌≡◌, refl, sym, ap, ◌∙◌}
 use mathlib.Core.Bool.{true, false}
 use mathlib.Core.List.{List, ◌++◌, append_assoc}
-use mathlib.Core.Option.{none}
+use Rattle.std.specs.Prelude.{None, Ok}
 use Prim.Native.Nat.{ℕ, suc, max, ◌+◌, ◌^◌, ◌<◌, ◌≤◌}
 use native.Mathlib.Nat.{le-max_left, le-max_right}
 use native.Mathlib.Omega.{arith}
@@ -11,9 +11,9 @@ use lib.ListN.{length, get_or, take, length-append, get_or-append}
 use lib.Seq.{slice, get_or-take, get_or-drop, get_or-append-add}
 use borrow.Author.Tests.{ltb-false}
 use Rattle.refusals.specs.Checks.{first_of}
+use Rattle.refusals.proofs.Checks.{accepted_is}
 use Rattle.fields.specs.Fields.{u32_at, bytes_of_u32}
 use Rattle.gpb.specs.Header.{geometry_start, srid_of, has_z, header_checks_3d, header_of_3d}
-use Rattle.gpb.specs.declared.Header.TheVariants as gp
 use Rattle.gpb.specs.Written.{header_bytes}
 use Rattle.gpb.proofs.Bounds.{srid_fits}
 use Rattle.gpb.proofs.HeaderLaws.{Accepted, accepted_3d, accepted}
@@ -25,11 +25,11 @@ use Rattle.coords.proofs.Levels.{walk_with_levels}
 use Rattle.coords.proofs.Moves.{walk_moves}
 use Rattle.coords.proofs.Pairs.{pair_walk}
 use Rattle.blob.specs.Blob.{walk_of_blob, walk_end}
-use Rattle.blob.proofs.LineReadBack.{found_none}
+use Rattle.operands.proofs.Order.{none_of_bytes}
 use Rattle.joining.specs.Joined.{own_bytes, joined_blob, deepest_of, nests_too_deep, join_checks}
 use Rattle.joining.specs.Promises.{collection_of, ReadsAsBoth}
 use Rattle.joining.proofs.Size.{joined_size}
-use Rattle.joining.proofs.Order.{none_of_join, none_of_blobs, fits_where_none}
+use Rattle.joining.proofs.Order.{none_of_join, fits_where_none}
 use Rattle.joining.proofs.Own.{was_read, lies}
 
 -- ---- a geometry's own bytes
@@ -89,12 +89,12 @@ module _ (a b : List ℕ) where
   count = refl
 
   module _ (small : srid_of a < 2 ^ 32) where
-    header_is : header_of_3d (joined_blob a b) ≡ gp.Found 8 1007 (srid_of a)
+    header_is : header_of_3d (joined_blob a b) ≡ Ok (record { at = 8; code = 1007; srid = srid_of a })
     unfolding joined_blob has_z
     header_is = simp append_assoc (header_back (srid_of a) 1007 (bytes_of_u32 2 ++ (own_bytes a ++ own_bytes b)) small (lit< tt) refl)
 
-    head_of : Accepted (joined_blob a b) 8 1007 (srid_of a)
-    head_of = accepted (joined_blob a b) 8 1007 (srid_of a) (accepted_3d (joined_blob a b) 8 1007 (srid_of a) header_is).0
+    head_of : Accepted (joined_blob a b) (record { at = 8; code = 1007; srid = srid_of a })
+    head_of = accepted (joined_blob a b) _ (accepted_3d (joined_blob a b) _ header_is).0
 
 -- ---- the whole join
 
@@ -123,7 +123,7 @@ module _ (a b : List ℕ) (nests : nests_too_deep a b ≡ false) (g h : Geometry
       let end : 17 + length (own_bytes a) + length (own_bytes b) ≡ length (joined_blob a b) = omega (arith, joined_size a b) in
       record {
         size = joined_size a b;
-        header = found_none (first_of (header_checks_3d (joined_blob a b))) (joined_blob a b) 8 1007 (srid_of a) (header_is a b small);
+        header = (accepted_is (first_of (header_checks_3d (joined_blob a b))) _ _ (header_is a b small)).0;
         srid = sym head.own;
         first = g;
         second = h;
@@ -135,10 +135,10 @@ module _ (a b : List ℕ) (nests : nests_too_deep a b ≡ false) (g h : Geometry
       }
 
 -- End theorem: what a join that nothing refuses writes is read as both.
-pub joined_reads : (a b : List ℕ) (lent : ℕ) → ((i : ℕ) → get_or a i 0 < 256) → ((i : ℕ) → get_or b i 0 < 256) → first_of (join_checks a b lent) ≡ none → ReadsAsBoth a b (joined_blob a b)
+pub joined_reads : (a b : List ℕ) (lent : ℕ) → ((i : ℕ) → get_or a i 0 < 256) → ((i : ℕ) → get_or b i 0 < 256) → first_of (join_checks a b lent) ≡ None → ReadsAsBoth a b (joined_blob a b)
 joined_reads a b lent bytes1 bytes2 h =
     let n = none_of_join a b lent h in
-    let both = none_of_blobs a b n.0 in
+    let both = none_of_bytes a b n.0 in
     let v = was_read a both.walk1 in
     let w = was_read b both.walk2 in
     reads a b (fits_where_none a b lent n.1).0 v.tree w.tree v.end w.end v.walk w.walk (srid_fits a bytes1)

@@ -1,15 +1,16 @@
 -- Two blobs joined into one: the bytes, and the refusals in order (document 02, 4/13). Definitions only.
 use Rattle.std.specs.Prelude.{ℕ, suc, max, Bool, not, List, [], ◌∷◌, ◌++◌, ltb, eqb, length}
 use Rattle.std.proofs.Math.Seq.{slice}
-use Rattle.refusals.specs.Checks.{Check, check, on_side}
+use Rattle.refusals.specs.Checks.{Check, check}
+use Rattle.refusals.specs.declared.Reason.TheVariants.{SridsDiffer, NestsTooDeep, OutputTooShort}
 use Rattle.refusals.specs.declared.Refusal.{Refusal}
 use Rattle.fields.specs.Fields.{bytes_of_u32}
-use Rattle.gpb.specs.Header.{geometry_start, srid_of, header_checks_3d}
+use Rattle.gpb.specs.Header.{geometry_start, srid_of}
 use Rattle.gpb.specs.Written.{header_bytes}
 use Rattle.coords.specs.Walk.{Geometry, Parsed, ok, refused}
 use Rattle.coords.specs.Levels.{deepest_level}
-use Rattle.coords.specs.Refusals.{walk_checks}
 use Rattle.blob.specs.Blob.{walk_of_blob, walk_end}
+use Rattle.operands.specs.Operands.{both_checks}
 use Rattle.outcomes.specs.Operations.{no_side}
 
 -- ---- the bytes
@@ -37,22 +38,14 @@ deepest_of (refused k) = 0
 unfoldable pub nests_too_deep : List ℕ → List ℕ → Bool
 nests_too_deep a b = ltb 32 (suc (max (deepest_of (walk_of_blob a)) (deepest_of (walk_of_blob b))))
 
--- what the bytes of either blob can break, as in every operation on two: headers of side 1, side 2, both with 13; walks of side 1, side 2
-unfoldable pub both_checks : List ℕ → List ℕ → List (Check Refusal)
-both_checks a b =
-    on_side 1 (header_checks_3d a)
-    ++ (on_side 2 (header_checks_3d b)
-    ++ (on_side 1 (walk_checks a (geometry_start a))
-    ++ on_side 2 (walk_checks b (geometry_start b))))
-
 -- what the join can break, each with side 0: 18, then 19, then 16 of an output of so many bytes
 unfoldable pub together_checks : List ℕ → List ℕ → ℕ → List (Check Refusal)
 together_checks a b room =
-    check (no_side 18) (srids_differ a b)
-    ∷ check (no_side 19) (nests_too_deep a b)
-    ∷ check (no_side 16) (ltb room (length (joined_blob a b)))
+    check (no_side SridsDiffer) (srids_differ a b)
+    ∷ check (no_side NestsTooDeep) (nests_too_deep a b)
+    ∷ check (no_side OutputTooShort) (ltb room (length (joined_blob a b)))
     ∷ []
 
--- all refusals, in order
+-- all refusals, in order: what the bytes of either blob can break, as in every operation on two, then these
 unfoldable pub join_checks : List ℕ → List ℕ → ℕ → List (Check Refusal)
 join_checks a b room = both_checks a b ++ together_checks a b room

@@ -1,6 +1,6 @@
 -- What the bytes of a join are read and measured as (document 02, 4/13: "we join two blobs into one and measure the result"). Definitions only.
-use Rattle.std.specs.Prelude.{ℕ, ◌+◌, ◌≡◌, true, false, cond, List, length, take}
-use Rattle.std.proofs.Math.Option.{none, some}
+use Rattle.std.specs.Prelude.{ℕ, ◌+◌, ◌≡◌, true, false, cond, List, length, take, None}
+use Rattle.std.proofs.Math.Option.{some}
 use Rattle.std.proofs.Math.ListN.{get_elem?}
 use Rattle.std.specs.Float.Ieee.{lt}
 use Rattle.refusals.specs.Checks.{first_of}
@@ -24,7 +24,7 @@ collection_of g h = geometry 7 true false (members (one_more g (one_more h no_me
 -- j is as long as 17 and both lengths, header with the Z test and walk accept it, to its last byte; its SRID is a's, its tree the collection of both
 pub record ReadsAsBoth (a b j : List ℕ) : Type 0 where
   pub size : length j ≡ 17 + (length (own_bytes a) + length (own_bytes b))
-  pub header : first_of (header_checks_3d j) ≡ none
+  pub header : first_of (header_checks_3d j) ≡ None
   pub srid : srid_of j ≡ srid_of a
   pub first : Geometry
   pub second : Geometry

@@ -1,4 +1,4 @@
 -- The laws of listed items.
-pub mod Rows
-pub mod Listed
+pub mod Places
+pub mod Classes
 pub mod Growing

@@ -1,21 +1,32 @@
--- A listing that grows. Serves inner contracts. Definitions only.
-use Rattle.std.specs.Prelude.{ℕ, ◌*◌, cond, List, ◌++◌, ltb, Float}
-use Rattle.std.proofs.lemmas.List.Edits.{sets}
+-- A listing that grows, and the items of some classes. Serves inner contracts. Definitions only.
+use Rattle.std.specs.Prelude.{List, [], ◌∷◌, ◌++◌, Float, Some, None}
+use Rattle.std.specs.declared.option.Option.{Option}
+use Rattle.std.specs.List.{flat_map}
+use Rattle.coords.specs.Parts.{Run}
+use Rattle.primitives.specs.declared.Point.{Point}
 use Rattle.primitives.specs.declared.Aabb.{Aabb}
-use Rattle.items.specs.Items.{Item}
+use Rattle.primitives.specs.Boxes.{union_of}
+use Rattle.items.specs.declared.Item.{Item}
+use Rattle.items.specs.Inner.{class_items}
+use Rattle.parts.specs.declared.Class.{Class}
+use Rattle.parts.specs.declared.Class.TheVariants.{Points, Lines, Faces}
 use Rattle.listing.specs.declared.Listing.{Listing}
-use Rattle.listing.specs.declared.Place.{Place}
-use Rattle.listing.specs.Rows.{floats_per_box, box_floats, numbers_per_place, place_numbers}
-use Rattle.listing.specs.Listing.{most_listed, Lists}
+use Rattle.listing.specs.declared.Row.{Row}
+use Rattle.listing.specs.Listing.{Lists}
 
--- the boxes with one more as the k-th, if k is one of those that are listed
-abbrev pub with_box : List Float → ℕ → Aabb → List Float
-with_box boxes k b = cond (ltb k most_listed) (sets boxes (floats_per_box * k) (box_floats b)) boxes
-
--- the places with one more as the k-th, if k is one of those that are listed
-abbrev pub with_place : List ℕ → ℕ → Place → List ℕ
-with_place places k p = cond (ltb k most_listed) (sets places (numbers_per_place * k) (place_numbers p)) places
+-- the box of some items, if there is one, with one more box in it
+abbrev pub union_with : Option Aabb → Aabb → Aabb
+union_with None b = b
+union_with (Some all) b = union_of all b
 
 -- whatever the first listing lists, that and then `more` are what the second lists
-abbrev pub ListsMore : List Item → List Float → Listing → List Float → List ℕ → Listing → List Float → List ℕ → Type 0
-ListsMore more floats list boxes places list' boxes' places' = (is : List Item) → Lists list is floats boxes places → Lists list' (is ++ more) floats boxes' places'
+abbrev pub ListsMore : List Item → List Float → Listing → List Row → Listing → List Row → Type 0
+ListsMore more floats list rows list' rows' = (is : List Item) → Lists list is floats rows → Lists list' (is ++ more) floats rows'
+
+-- the classes in the order of the sweeps
+abbrev pub all_classes : List Class
+all_classes = Points ∷ Lines ∷ Faces ∷ []
+
+-- the items of these classes, class after class
+abbrev pub items_of_classes : List Class → List (Run Point) → List Item
+items_of_classes classes rs = flat_map (λ class. class_items class rs) classes

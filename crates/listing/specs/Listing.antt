@@ -1,33 +1,27 @@
 -- The items of a side, listed: how many, the box of all, and of few items each one's box and place. Serves inner contracts. Definitions only.
-use Rattle.std.specs.Prelude.{ℕ, zero, suc, ◌+◌, ◌*◌, ◌<◌, ◌≤◌, ◌≡◌, cond, List, [], ◌∷◌, ltb, length, Float}
-use Rattle.std.proofs.Math.Option.{Option, none, some}
+use Rattle.std.specs.Prelude.{ℕ, ◌+◌, ◌*◌, ◌≤◌, ◌≡◌, List, length, take, map, Float}
+use Rattle.std.specs.List.{All}
 use Rattle.workspace.specs.Workspace.{floats_per_coordinate}
-use Rattle.primitives.specs.declared.Aabb.{Aabb}
-use Rattle.items.specs.Items.{Item, box_of_item, box_of_items}
+use Rattle.items.specs.declared.Item.{Item}
+use Rattle.items.specs.Items.{box_of_item, box_of_items}
 use Rattle.items.specs.Inner.{item_at}
-use Rattle.items.specs.declared.Class.{Class}
-use Rattle.items.specs.declared.Class.TheVariants.{Points, Segments, Triangles}
+use Rattle.parts.specs.declared.Class.{Class}
+use Rattle.parts.specs.declared.Class.TheVariants.{Points, Lines, Faces}
 use Rattle.listing.specs.declared.Listing.{Listing}
 use Rattle.listing.specs.declared.Place.{Place}
-use Rattle.listing.specs.Rows.{box_at, place_at}
+use Rattle.listing.specs.declared.Row.{Row}
 
 -- at most so many items are listed with box and place
 abbrev pub most_listed : ℕ
 most_listed = 16
-
--- ---- the box of all items
-
--- the box of a listing, if there is an item in it
-abbrev pub bounds_of : Listing → Option Aabb
-bounds_of list = cond (ltb 0 list.count) (some list.all) none
 
 -- ---- items by their places
 
 -- how many points an item of the class has
 abbrev pub point_count_of : Class → ℕ
 point_count_of Points = 1
-point_count_of Segments = 2
-point_count_of Triangles = 3
+point_count_of Lines = 2
+point_count_of Faces = 3
 
 -- the item at a place
 abbrev pub item_placed : List Float → Place → Item
@@ -37,29 +31,30 @@ item_placed floats p = item_at p.class floats p.at p.j
 abbrev pub RoomAt : List Float → Place → Type 0
 RoomAt floats p = floats_per_coordinate * (p.at + (p.j + point_count_of p.class)) ≤ length floats
 
--- the item at the k-th place
-abbrev pub listed_item : List Float → List ℕ → ℕ → Item
-listed_item floats places k = item_placed floats (place_at places k)
+-- the item at the second place is the next of its run after the one at the first
+abbrev pub Follows : Place → Place → Type 0
+Follows before p = (p.class ≡ before.class) × (p.at ≡ before.at) × (p.j ≡ before.j + 1)
 
--- the items at n places from the k-th on
-unfoldable pub listed_from : List Float → List ℕ → ℕ → ℕ → List Item
-listed_from floats places k zero = []
-listed_from floats places k (suc n) = listed_item floats places k ∷ listed_from floats places (k + 1) n
+-- ---- rows
+
+-- the item of a row
+abbrev pub item_in : List Float → Row → Item
+item_in floats row = item_placed floats row.first
+
+-- a row's place lies within the floats, and its box is its item's
+pub record Entry (floats : List Float) (row : Row) : Type 0 where
+  pub room : RoomAt floats row.first
+  pub box : row.bounds ≡ box_of_item (item_in floats row)
+
+-- the items in order, each in a row with its box
+pub record Listed (floats : List Float) (is : List Item) (rows : List Row) : Type 0 where
+  pub entries : All (Entry floats) rows
+  pub items : map (item_in floats) rows ≡ is
 
 -- ---- a listing
 
--- the k-th place lies within the floats, and the k-th box is its item's
-pub record Entry (k : ℕ) (floats boxes : List Float) (places : List ℕ) : Type 0 where
-  pub room : RoomAt floats (place_at places k)
-  pub box : box_at boxes k ≡ box_of_item (listed_item floats places k)
-
--- the first n entries
-abbrev pub Entries : ℕ → List Float → List Float → List ℕ → Type 0
-Entries n floats boxes places = (k : ℕ) → k < n → Entry k floats boxes places
-
--- a listing of the items: their number, the box of all, and of few items each one's box and place
-pub record Lists (list : Listing) (is : List Item) (floats boxes : List Float) (places : List ℕ) : Type 0 where
+-- a listing of the items: their number, the box of all, and of few items a row of each
+pub record Lists (list : Listing) (is : List Item) (floats : List Float) (rows : List Row) : Type 0 where
   pub count : list.count ≡ length is
-  pub box : bounds_of list ≡ box_of_items is
-  pub entries : list.count ≤ most_listed → Entries list.count floats boxes places
-  pub items : list.count ≤ most_listed → listed_from floats places 0 list.count ≡ is
+  pub box : list.all ≡ box_of_items is
+  pub few : list.count ≤ most_listed → Listed floats is (take list.count rows)

@@ -7,3 +7,4 @@ pub mod Settled
 pub mod NearestEdge
 pub mod TwoTriangles
 pub mod SparedTriangles
+pub mod Literals

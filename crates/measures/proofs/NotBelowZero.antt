@@ -8,6 +8,7 @@ use Rattle.ieee754.proofs.NotBelowZero.{NotBelow, clear_not_below, root_not_belo
 use Rattle.ieee754.proofs.SumsAndSquares.{sum_of_squares_fits}
 use Rattle.primitives.specs.declared.Point.{Point}
 use Rattle.primitives.specs.declared.Witness.{Witness}
+use Rattle.measures.specs.declared.Triangle.{Triangle}
 use Rattle.primitives.specs.Vectors.{squared_distance, dot_of}
 use Rattle.primitives.specs.Witnesses.{witness_of, between_of, smaller_of, flipped_of}
 use Rattle.measures.specs.Measures.{epsilon, point_segment, at_parameters, long_segments, segment_segment, normal_of, foot_of, foot_inside, point_edges, point_triangle, closer_of, segment_edges, infinitely_far, edge_pairs, first_vertices, second_vertices, triangle_triangle}
@@ -60,36 +61,36 @@ segment_segment_lem p q u v =
     (either (le (squared_distance v u) epsilon) _ _ (between p u) (point_segment_lem p u v))
     (either (le (squared_distance v u) epsilon) _ _ (flipped _ (point_segment_lem u p q)) (long_segments_lem p q u v))
 
-pub point_triangle_lem : (p a b c : Point) → Distant (point_triangle p a b c)
+pub point_triangle_lem : (p : Point) (t : Triangle) → Distant (point_triangle p t)
 unfolding point_triangle point_edges
-point_triangle_lem p a b c =
-    either (foot_inside p a b c (normal_of a b c)) _ _ (between p (foot_of p a (normal_of a b c)))
-    (smaller _ _ (smaller _ _ (point_segment_lem p a b) (point_segment_lem p b c)) (point_segment_lem p c a))
+point_triangle_lem p t =
+    either (foot_inside p t (normal_of t)) _ _ (between p (foot_of p t.a (normal_of t)))
+    (smaller _ _ (smaller _ _ (point_segment_lem p t.a t.b) (point_segment_lem p t.b t.c)) (point_segment_lem p t.c t.a))
 
-segment_edges_lem : (w : Witness) (p q a b c : Point) → Distant w → Distant (segment_edges w p q a b c)
+segment_edges_lem : (w : Witness) (p q : Point) (t : Triangle) → Distant w → Distant (segment_edges w p q t)
 unfolding segment_edges
-segment_edges_lem w p q a b c h =
-    closer _ _ (closer _ _ (closer _ _ h (segment_segment_lem p q a b)) (segment_segment_lem p q b c)) (segment_segment_lem p q c a)
+segment_edges_lem w p q t h =
+    closer _ _ (closer _ _ (closer _ _ h (segment_segment_lem p q t.a t.b)) (segment_segment_lem p q t.b t.c)) (segment_segment_lem p q t.c t.a)
 
-edge_pairs_lem : (a b c d e f : Point) → Distant (edge_pairs a b c d e f)
+edge_pairs_lem : (t u : Triangle) → Distant (edge_pairs t u)
 unfolding edge_pairs
-edge_pairs_lem a b c d e f =
-    segment_edges_lem _ c a d e f (segment_edges_lem _ b c d e f (segment_edges_lem _ a b d e f (infinite a d)))
+edge_pairs_lem t u =
+    segment_edges_lem _ t.c t.a u (segment_edges_lem _ t.b t.c u (segment_edges_lem _ t.a t.b u (infinite t.a u.a)))
 
-first_vertices_lem : (w : Witness) (a b c d e f : Point) → Distant w → Distant (first_vertices w a b c d e f)
+first_vertices_lem : (w : Witness) (t u : Triangle) → Distant w → Distant (first_vertices w t u)
 unfolding first_vertices
-first_vertices_lem w a b c d e f h =
-    smaller _ _ (smaller _ _ (smaller _ _ h (point_triangle_lem a d e f)) (point_triangle_lem b d e f)) (point_triangle_lem c d e f)
+first_vertices_lem w t u h =
+    smaller _ _ (smaller _ _ (smaller _ _ h (point_triangle_lem t.a u)) (point_triangle_lem t.b u)) (point_triangle_lem t.c u)
 
-second_vertices_lem : (w : Witness) (a b c d e f : Point) → Distant w → Distant (second_vertices w a b c d e f)
+second_vertices_lem : (w : Witness) (t u : Triangle) → Distant w → Distant (second_vertices w t u)
 unfolding second_vertices
-second_vertices_lem w a b c d e f h =
+second_vertices_lem w t u h =
     smaller _ _
-    (smaller _ _ (smaller _ _ h (flipped _ (point_triangle_lem d a b c))) (flipped _ (point_triangle_lem e a b c)))
-    (flipped _ (point_triangle_lem f a b c))
+    (smaller _ _ (smaller _ _ h (flipped _ (point_triangle_lem u.a t))) (flipped _ (point_triangle_lem u.b t)))
+    (flipped _ (point_triangle_lem u.c t))
 
-pub triangle_triangle_lem : (a b c d e f : Point) → Distant (triangle_triangle a b c d e f)
+pub triangle_triangle_lem : (t u : Triangle) → Distant (triangle_triangle t u)
 unfolding triangle_triangle
-triangle_triangle_lem a b c d e f =
-    either (eq (edge_pairs a b c d e f).d positive_zero) _ _ (edge_pairs_lem a b c d e f)
-    (second_vertices_lem _ a b c d e f (first_vertices_lem _ a b c d e f (edge_pairs_lem a b c d e f)))
+triangle_triangle_lem t u =
+    either (eq (edge_pairs t u).d positive_zero) _ _ (edge_pairs_lem t u)
+    (second_vertices_lem _ t u (first_vertices_lem _ t u (edge_pairs_lem t u)))

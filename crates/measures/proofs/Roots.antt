@@ -1,4 +1,4 @@
--- Which floats have a root that is a number, and which one that is 0. Assumes nothing.
+-- Which floats have a root that is a number. Assumes nothing.
 use mathlib.Core.Path.{◌≡◌, refl, sym, ◌∙◌}
 use mathlib.Core.Bool.{true, false, not, true≢false, false≢true}
 use Prim.Native.Nat.{ℕ, zero, suc, ◌*◌, ◌<◌}
@@ -7,14 +7,14 @@ use native.Mathlib.Omega.{arith}
 use borrow.Author.Tests.{eqb-true}
 use lib.IntN.{ℤ, pos}
 use lib.Dec.{T}
-use lib.Ieee.{Float, nan, inf, fin, binary64, up, down, le, eq, fits, is_nan}
+use lib.Ieee.{Float, nan, inf, fin, binary64, up, down, le, fits, is_nan}
 use lib.Ieee.Bits.{is_true}
 use lib.Ieee.Fits.{up_pos}
 use Rattle.ieee754.specs.MinMax.{positive_zero}
 use Rattle.ieee754.specs.Root.{root_of}
 use Rattle.ieee754.proofs.SignClear.{sign_clear_number}
 use Rattle.ieee754.proofs.RootLaws.{root_sign_clear, zero_below_clear}
-use Rattle.ieee754.proofs.NotBelowZero.{both_left, zero_value}
+use Rattle.ieee754.proofs.NotBelowZero.{both_left}
 
 positive : (m : ℕ) (e : ℤ) → suc m * up e ≡ 0 → ⊥
 positive m e z = let p : 0 < suc m * up e = mul-pos (zero-lt-suc m) (up_pos e) in omega arith
@@ -45,10 +45,3 @@ root_nan (inf false) f h = absurd (true≢false (unfold le in h))
 root_nan (fin true zero e) f h = absurd (true≢false (sym (zero_at_least e) ∙ h))
 root_nan (fin true (suc m) e) f h = unfold root_of in refl
 root_nan (fin false m e) f h = absurd (true≢false (sym (is_true _ (zero_below_clear (pos 0) (fin false m e) tt (unfold fits in tt) f)) ∙ h))
-
--- the root of 0 is 0
-pub root_of_zero : (x : Float) → eq x positive_zero ≡ true → eq (root_of x) positive_zero ≡ true
-root_of_zero nan h = absurd (false≢true (unfold eq in h))
-root_of_zero (inf s) h = absurd (false≢true (unfold eq in h))
-root_of_zero (fin s zero e) h = unfold root_of in h
-root_of_zero (fin s (suc m) e) h = absurd (positive m e (zero_value s (suc m) e h))

@@ -2,13 +2,16 @@
 use mathlib.Core.Path.{◌≡◌, refl, sym, ap, ◌∙◌}
 use mathlib.Core.Bool.{Bool, true, false}
 use mathlib.Core.List.{List, [], ◌∷◌}
-use mathlib.Core.Option.{Option, none, some, some-injective, none-ne-some}
+use Rattle.std.specs.Prelude.{None, Some}
+use Rattle.std.specs.declared.option.Option.{Option}
+use Rattle.std.proofs.lemmas.Option.{none-some, same_Some}
 use lib.Ieee.{lt}
 use Rattle.primitives.specs.declared.Witness.{Witness}
 use Rattle.extremes.specs.Sweeps.{shorter, taking}
 use Rattle.extremes.proofs.Lists.{Each}
 use Rattle.extremes.proofs.Senses.{shortest, not_itself}
-use Rattle.extremes.proofs.Taking.{BestFits, Unbeaten, unbeaten_stays, unbeaten_later, taking_fits, taking_again}
+use Rattle.extremes.specs.BestSoFar.{BestFits}
+use Rattle.extremes.proofs.Taking.{Unbeaten, unbeaten_stays, unbeaten_later, taking_fits, taking_again}
 use Rattle.measures.specs.InnerOffers.{offered_all, AllSettled}
 use Rattle.measures.proofs.NotBelowZero.{Distant}
 
@@ -17,12 +20,12 @@ use Rattle.measures.proofs.NotBelowZero.{Distant}
 -- what changes nothing does not beat the best
 settled_unbeaten : (s : Option Witness) (w : Witness) → BestFits s → taking shorter s w ≡ s → Unbeaten shorter s w
 unfolding taking
-settled_unbeaten none w f e = absurd (none-ne-some w (sym e))
-settled_unbeaten (some best) w f e = go (lt w.d best.d) refl
+settled_unbeaten None w f e = absurd (none-some w (sym e))
+settled_unbeaten (Some best) w f e = go (lt w.d best.d) refl
   where
     go : (t : Bool) → lt w.d best.d ≡ t → lt w.d best.d ≡ false
     go false k = k
-    go true k = ap (λ (v : Witness). lt v.d best.d) (some-injective w best (rw k at e)) ∙ not_itself shortest best.d f
+    go true k = ap (λ (v : Witness). lt v.d best.d) (same_Some w best (rw k at e)) ∙ not_itself shortest best.d f
 
 -- what changes nothing changes nothing after another
 pub stays : (s : Option Witness) (w v : Witness) → BestFits s → Distant w → Distant v → taking shorter s w ≡ s → taking shorter (taking shorter s v) w ≡ taking shorter s v
@@ -40,6 +43,10 @@ pub again_later : (s : Option Witness) (w v : Witness) → BestFits s → Distan
 again_later s w v f h k = stays (taking shorter s w) w v (still_fits s w f h) h k (again s w h)
 
 -- ---- many witnesses
+
+pub still_fit : (s : Option Witness) (ws : List Witness) → BestFits s → Each Distant ws → BestFits (offered_all s ws)
+still_fit s [] f d = f
+still_fit s (w ∷ ws) f d = still_fit (taking shorter s w) ws (still_fits s w f d.0) d.1
 
 settled_after : (s : Option Witness) (ws : List Witness) (v : Witness) → BestFits s → Each Distant ws → Distant v → AllSettled s ws → AllSettled (taking shorter s v) ws
 unfolding AllSettled

@@ -2,7 +2,8 @@
 use mathlib.Core.Path.{◌≡◌, refl, ap, ◌∙◌}
 use mathlib.Core.Bool.{Bool, true, false, cond}
 use mathlib.Core.List.{List, [], ◌∷◌, foldl}
-use mathlib.Core.Option.{Option, none, some}
+use Rattle.std.specs.Prelude.{None, Some}
+use Rattle.std.specs.declared.option.Option.{Option}
 use lib.Dec.{T}
 use lib.Ieee.{Float, binary64, lt, fits}
 use Rattle.ieee754.proofs.FloatOrder.{lt_number_left, lt_number_right, lt_transitive, le_transitive, not_lt→le, le→not_lt}
@@ -11,7 +12,7 @@ use Rattle.primitives.specs.Witnesses.{smaller_of}
 use Rattle.extremes.specs.Sweeps.{shorter, taking}
 use Rattle.extremes.proofs.Lists.{Each}
 use Rattle.extremes.proofs.Senses.{Number}
-use Rattle.extremes.proofs.Taking.{BestFits}
+use Rattle.extremes.specs.BestSoFar.{BestFits}
 
 -- what is not less than a number is not less than what that number is not less than
 not_less_through : (x m y : Float) → T (fits binary64 x) → Number m → T (fits binary64 y) → lt y m ≡ false → lt m x ≡ false → lt y x ≡ false
@@ -27,10 +28,10 @@ not_less_through x m y f n g h k = go (lt y x) refl
 -- the smaller of two, offered, is the first offered and then the second, where the first is no NaN
 smaller_offered : (s : Option Witness) (m w : Witness) → BestFits s → Number m.d → T (fits binary64 w.d) → taking shorter s (smaller_of m w) ≡ taking shorter (taking shorter s m) w
 unfolding taking smaller_of
-smaller_offered none m w f n g = refl
-smaller_offered (some best) m w f n g = go (lt w.d m.d) (lt m.d best.d) refl refl
+smaller_offered None m w f n g = refl
+smaller_offered (Some best) m w f n g = go (lt w.d m.d) (lt m.d best.d) refl refl
   where
-    go : (a b : Bool) → lt w.d m.d ≡ a → lt m.d best.d ≡ b → taking shorter (some best) (cond a w m) ≡ taking shorter (some (cond b m best)) w
+    go : (a b : Bool) → lt w.d m.d ≡ a → lt m.d best.d ≡ b → taking shorter (Some best) (cond a w m) ≡ taking shorter (Some (cond b m best)) w
     go true true h k = rw (h, lt_transitive w.d m.d best.d g n.fit f h k)
     go true false h k = refl
     go false true h k = rw (h, k)
@@ -55,7 +56,7 @@ smallest_offered s m (w ∷ ws) f n e =
     smallest_offered s (smaller_of m w) ws f (smaller_number m w n e.0) e.1
     ∙ ap (λ (t : Option Witness). foldl (taking shorter) t ws) (smaller_offered s m w f n e.0)
 
--- a witness that none is less than is the smallest
+-- a witness that None is less than is the smallest
 pub not_less_stays : (m w : Witness) → lt w.d m.d ≡ false → smaller_of m w ≡ m
 unfolding smaller_of
 not_less_stays m w h = ap (λ (b : Bool). cond b w m) h

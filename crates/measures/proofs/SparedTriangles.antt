@@ -1,49 +1,87 @@
--- Two triangles of which one follows a measured one in its run: what may be passed over. Assumes nothing.
+-- Two triangles of which one follows a measured one in its run: what may be passed over, as the candidates are offered. Assumes nothing.
 use mathlib.Core.Path.{◌≡◌}
-use mathlib.Core.Bool.{Bool, true, false}
+use mathlib.Core.Bool.{true, false}
 use mathlib.Core.List.{List, [], ◌∷◌}
-use Rattle.primitives.specs.declared.Point.{Point}
+use Rattle.std.specs.declared.option.Option.{Option}
 use Rattle.primitives.specs.declared.Witness.{Witness}
-use Rattle.measures.specs.Measures.{segment_segment, point_triangle}
 use Rattle.extremes.specs.Sweeps.{shorter, taking}
+use Rattle.extremes.specs.BestSoFar.{BestFits}
 use Rattle.extremes.proofs.Lists.{Each}
-use Rattle.measures.specs.InnerOffers.{offered_all, AllSettled, flipped_if, edge_witnesses, shared_by_first, shared_by_second}
-use Rattle.extremes.specs.InnerBest.{best_of, Sound, Keeps}
-use Rattle.extremes.specs.declared.Best.{Best}
-use Rattle.measures.proofs.NotBelowZero.{Distant}
-use Rattle.extremes.proofs.BestSoFar.{sound_fits}
-use Rattle.measures.proofs.Settled.{settled_stays}
-use Rattle.measures.proofs.TwoTriangles.{shared_first_distant, shared_second_distant}
+use Rattle.measures.specs.declared.Triangle.{Triangle}
+use Rattle.measures.specs.declared.Follows.{Follows}
+use Rattle.measures.specs.Measures.{segment_segment, infinitely_far}
+use Rattle.measures.specs.InnerOffers.{offered_all, AllSettled, edge_witnesses, first_two, vertex_witnesses, shared_by_first, shared_by_second, Spared}
+use Rattle.measures.proofs.NotBelowZero.{Distant, infinite}
+use Rattle.measures.proofs.Settled.{still_fit, settled_stays}
+use Rattle.measures.proofs.TwoTriangles.{edges_distant, vertices_distant, shared_first_distant, shared_second_distant}
 
--- at the best k, what the triangle a b c, or d e f, shares with the one before it changes nothing, where that one was measured
-pub record Spared (a b c d e f : Point) (follows-a follows-b : Bool) (k : Best) : Type 0 where
-  pub first : follows-a ≡ true → AllSettled (best_of k) (shared_by_first a b d e f)
-  pub second : follows-b ≡ true → AllSettled (best_of k) (shared_by_second a b c d e)
-
-module _ {a b c d e f : Point} {follows-a follows-b : Bool} {k : Best} (s : Spared a b c d e f follows-a follows-b k) where
-  -- r is k after other candidates
-  pub spared_after : {r : Best} (vs : List Witness) → Sound k → Each Distant vs → Keeps r (offered_all (best_of k) vs) → Spared a b c d e f follows-a follows-b r
-  spared_after vs h g kept =
+module _ {t u : Triangle} {follows : Follows} {best : Option Witness} (s : Spared t u follows best) where
+  -- and so after other candidates
+  spared_after : (vs : List Witness) → BestFits best → Each Distant vs → Spared t u follows (offered_all best vs)
+  spared_after vs f g =
       record {
-        first = λ t. rw kept.same (settled_stays (best_of k) (shared_by_first a b d e f) vs (sound_fits k h) (shared_first_distant a b d e f) g (s.first t));
-        second = λ t. rw kept.same (settled_stays (best_of k) (shared_by_second a b c d e) vs (sound_fits k h) (shared_second_distant a b c d e) g (s.second t));
+        first = λ e. settled_stays best (shared_by_first t.a t.b u) vs f (shared_first_distant t.a t.b u) g (s.first e);
+        second = λ e. settled_stays best (shared_by_second t u.a u.b) vs f (shared_second_distant t u.a u.b) g (s.second e);
       }
 
-  -- the vertices a and b, and d and e
-  pub first_vertices_lem : follows-a ≡ true → AllSettled (best_of k) (flipped_if false (point_triangle a d e f) ∷ flipped_if false (point_triangle b d e f) ∷ [])
+  -- the first two vertices of t, and of u
+  pub first_spared : follows.first ≡ true → AllSettled best (first_two false t u)
   unfolding AllSettled
-  first_vertices_lem t = ((s.first t).0, ((s.first t).1.0, tt))
+  first_spared e = ((s.first e).0, ((s.first e).1.0, tt))
 
-  pub second_vertices_lem : follows-b ≡ true → AllSettled (best_of k) (flipped_if true (point_triangle d a b c) ∷ flipped_if true (point_triangle e a b c) ∷ [])
+  pub second_spared : follows.second ≡ true → AllSettled best (first_two true u t)
   unfolding AllSettled
-  second_vertices_lem t = ((s.second t).0, ((s.second t).1.0, tt))
+  second_spared e = ((s.second e).0, ((s.second e).1.0, tt))
 
-  -- the edge b c where c is a
-  pub middle_edge : (follows-a ≡ true) × (a ≡ c) → offered_all (best_of k) (edge_witnesses b c d e f) ≡ best_of k
+  -- the edge b c of t where its c is its a
+  pub middle_spared : (follows.first ≡ true) × (t.a ≡ t.c) → offered_all best (edge_witnesses t.b t.c u) ≡ best
   unfolding AllSettled
-  middle_edge t = let u = (s.first t.0).1.1 in rw (← t.1, u.0, u.1.0, u.1.1.0)
+  middle_spared e = let v = (s.first e.0).1.1 in rw (← e.1, v.0, v.1.0, v.1.1.0)
 
-  -- the edge e f where f is d, with each edge of a b c
-  pub other_edge : (follows-b ≡ true) × (d ≡ f) → (taking shorter (best_of k) (segment_segment a b e f) ≡ best_of k) × (taking shorter (best_of k) (segment_segment b c e f) ≡ best_of k) × (taking shorter (best_of k) (segment_segment c a e f) ≡ best_of k)
+  -- the edge b c of u where its c is its a, with each edge of t
+  pub other_spared : (follows.second ≡ true) × (u.a ≡ u.c) → (taking shorter best (segment_segment t.a t.b u.b u.c) ≡ best) × (taking shorter best (segment_segment t.b t.c u.b u.c) ≡ best) × (taking shorter best (segment_segment t.c t.a u.b u.c) ≡ best)
   unfolding AllSettled
-  other_edge t = let u = (s.second t.0).1.1 in rw (← t.1) (u.0, u.1.0, u.1.1.0)
+  other_spared e = let v = (s.second e.0).1.1 in rw (← e.1) (v.0, v.1.0, v.1.1.0)
+
+-- ---- the best in the course of the offers
+module _ (t u : Triangle) (best : Option Witness) where
+  -- after +infinity, after each edge of t, and after the vertices of t
+  abbrev pub start : Option Witness
+  start = taking shorter best (infinitely_far t.a u.a)
+
+  abbrev pub at_first : Option Witness
+  at_first = offered_all start (edge_witnesses t.a t.b u)
+
+  abbrev pub at_second : Option Witness
+  at_second = offered_all at_first (edge_witnesses t.b t.c u)
+
+  abbrev pub at_third : Option Witness
+  at_third = offered_all at_second (edge_witnesses t.c t.a u)
+
+  abbrev pub at_fourth : Option Witness
+  at_fourth = offered_all at_third (vertex_witnesses false t u)
+
+  module _ {follows : Follows} (s : Spared t u follows best) (f : BestFits best) where
+    start_fits : BestFits start
+    start_fits = still_fit best (infinitely_far t.a u.a ∷ []) f (infinite t.a u.a, tt)
+
+    first_fits : BestFits at_first
+    first_fits = still_fit start (edge_witnesses t.a t.b u) start_fits (edges_distant t.a t.b u)
+
+    second_fits : BestFits at_second
+    second_fits = still_fit at_first (edge_witnesses t.b t.c u) first_fits (edges_distant t.b t.c u)
+
+    pub spared_start : Spared t u follows start
+    spared_start = spared_after s (infinitely_far t.a u.a ∷ []) f (infinite t.a u.a, tt)
+
+    pub spared_first : Spared t u follows at_first
+    spared_first = spared_after spared_start (edge_witnesses t.a t.b u) start_fits (edges_distant t.a t.b u)
+
+    pub spared_second : Spared t u follows at_second
+    spared_second = spared_after spared_first (edge_witnesses t.b t.c u) first_fits (edges_distant t.b t.c u)
+
+    pub spared_third : Spared t u follows at_third
+    spared_third = spared_after spared_second (edge_witnesses t.c t.a u) second_fits (edges_distant t.c t.a u)
+
+    pub spared_fourth : Spared t u follows at_fourth
+    spared_fourth = spared_after spared_third (vertex_witnesses false t u) (still_fit at_second (edge_witnesses t.c t.a u) second_fits (edges_distant t.c t.a u)) (vertices_distant false t u)

@@ -1,17 +1,14 @@
 -- Witnesses offered to the best so far, and those that two triangles share with the pair before them. Serves inner contracts. Definitions only.
-use Rattle.std.specs.Prelude.{◌≡◌, Bool, cond, ◌&&◌, Float}
+use Rattle.std.specs.Prelude.{◌≡◌, Bool, true, cond}
 use mathlib.Core.List.{List, [], ◌∷◌, foldl}
-use Rattle.std.proofs.Math.Option.{Option}
-use Rattle.std.specs.Float.Ieee.{le}
+use Rattle.std.specs.declared.option.Option.{Option}
 use Rattle.primitives.specs.declared.Point.{Point}
 use Rattle.primitives.specs.declared.Witness.{Witness}
 use Rattle.primitives.specs.Witnesses.{flipped_of}
 use Rattle.extremes.specs.Sweeps.{shorter, taking}
+use Rattle.measures.specs.declared.Triangle.{Triangle}
+use Rattle.measures.specs.declared.Follows.{Follows}
 use Rattle.measures.specs.Measures.{segment_segment, point_triangle}
-
--- each of three sums is at least the best's; not so where one is NaN
-abbrev pub each_at_least : Float → Float → Float → Float → Bool
-each_at_least least x y z = le least x && (le least y && le least z)
 
 -- witnesses offered in order: the first is taken, a later one only if strictly closer
 abbrev pub offered_all : Option Witness → List Witness → Option Witness
@@ -27,27 +24,32 @@ abbrev pub flipped_if : Bool → Witness → Witness
 flipped_if flip w = cond flip (flipped_of w) w
 
 -- a segment with the edges of a triangle
-abbrev pub edge_witnesses : Point → Point → Point → Point → Point → List Witness
-edge_witnesses p q a b c = segment_segment p q a b ∷ segment_segment p q b c ∷ segment_segment p q c a ∷ []
+abbrev pub edge_witnesses : Point → Point → Triangle → List Witness
+edge_witnesses p q t = segment_segment p q t.a t.b ∷ segment_segment p q t.b t.c ∷ segment_segment p q t.c t.a ∷ []
 
--- the vertices of a triangle with another triangle
-abbrev pub vertex_witnesses : Bool → Point → Point → Point → Point → Point → Point → List Witness
-vertex_witnesses flip a b c d e f =
-    flipped_if flip (point_triangle a d e f)
-    ∷ flipped_if flip (point_triangle b d e f)
-    ∷ flipped_if flip (point_triangle c d e f)
+-- the first two vertices of a triangle with another triangle
+abbrev pub first_two : Bool → Triangle → Triangle → List Witness
+first_two flip t u = flipped_if flip (point_triangle t.a u) ∷ flipped_if flip (point_triangle t.b u) ∷ []
+
+-- all three
+abbrev pub vertex_witnesses : Bool → Triangle → Triangle → List Witness
+vertex_witnesses flip t u = flipped_if flip (point_triangle t.a u) ∷ flipped_if flip (point_triangle t.b u) ∷ flipped_if flip (point_triangle t.c u) ∷ []
+
+-- what two triangles of one fan have both, with the triangle u: the fan's first vertex a, their common vertex b, and the edge b a
+abbrev pub shared_by_first : Point → Point → Triangle → List Witness
+shared_by_first a b u = point_triangle a u ∷ point_triangle b u ∷ edge_witnesses b a u
+
+-- the same of a fan of the second side, its first vertex d and the common vertex e, with the triangle t
+abbrev pub shared_by_second : Triangle → Point → Point → List Witness
+shared_by_second t d e =
+    flipped_of (point_triangle d t)
+    ∷ flipped_of (point_triangle e t)
+    ∷ segment_segment t.a t.b e d
+    ∷ segment_segment t.b t.c e d
+    ∷ segment_segment t.c t.a e d
     ∷ []
 
--- what two triangles of one fan have both, with the triangle d e f: the fan's first vertex a, their common vertex b, and the edge b a
-abbrev pub shared_by_first : Point → Point → Point → Point → Point → List Witness
-shared_by_first a b d e f = point_triangle a d e f ∷ point_triangle b d e f ∷ edge_witnesses b a d e f
-
--- the same of a fan of the second side, its first vertex d and the common vertex e, with the triangle a b c
-abbrev pub shared_by_second : Point → Point → Point → Point → Point → List Witness
-shared_by_second a b c d e =
-    flipped_of (point_triangle d a b c)
-    ∷ flipped_of (point_triangle e a b c)
-    ∷ segment_segment a b e d
-    ∷ segment_segment b c e d
-    ∷ segment_segment c a e d
-    ∷ []
+-- at that best, what t, or u, shares with the triangle before it changes nothing, where it follows a measured one
+pub record Spared (t u : Triangle) (follows : Follows) (best : Option Witness) : Type 0 where
+  pub first : follows.first ≡ true → AllSettled best (shared_by_first t.a t.b u)
+  pub second : follows.second ≡ true → AllSettled best (shared_by_second t u.a u.b)

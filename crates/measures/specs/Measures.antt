@@ -1,5 +1,6 @@
 -- The pair measures, operation by operation as in the Rust (document 01, Pair measures). Definitions only.
-use Rattle.std.specs.Prelude.{Bool, false, cond, ◌&&◌, negsuc, Float}
+use Rattle.std.specs.Prelude.{Bool, false, cond, ◌&&◌, negsuc, Float, None, Some}
+use Rattle.std.specs.declared.option.Option.{Option}
 use Rattle.std.specs.Float.{inf, fin, binary64}
 use Rattle.std.specs.Float.Ieee.{add, sub, mul, div, neg, lt, le, eq, ne}
 use Rattle.ieee754.specs.MinMax.{clamp_of, positive_zero, one}
@@ -8,6 +9,7 @@ use Rattle.primitives.specs.declared.Witness.{Witness}
 use Rattle.primitives.specs.Vectors.{difference_of, dot_of, cross_of, interpolated_of, squared_distance}
 use Rattle.primitives.specs.Witnesses.{witness_of, between_of, smaller_of, flipped_of}
 use Rattle.measures.specs.declared.Parameters.{Parameters}
+use Rattle.measures.specs.declared.Triangle.{Triangle}
 
 -- ---- a point and a segment (Rust: pt_seg)
 
@@ -76,9 +78,9 @@ segment_segment p1 q1 p2 q2 =
 
 -- ---- a point and a filled triangle (Rust: pt_tri)
 
--- the normal of the triangle a b c
-unfoldable pub normal_of : Point → Point → Point → Point
-normal_of a b c = cross_of (difference_of b a) (difference_of c a)
+-- the normal of a triangle
+unfoldable pub normal_of : Triangle → Point
+normal_of t = cross_of (difference_of t.b t.a) (difference_of t.c t.a)
 
 -- p - k × n, per axis
 unfoldable pub back_along : Point → Point → Float → Point
@@ -98,57 +100,59 @@ unfoldable pub inner_side : Point → Point → Point → Point → Bool
 inner_side u v foot n = le positive_zero (dot_of (cross_of (difference_of v u) (difference_of foot u)) n)
 
 -- on the inner side of all three edges
-unfoldable pub inside_triangle : Point → Point → Point → Point → Point → Bool
-inside_triangle a b c foot n = inner_side a b foot n && (inner_side b c foot n && inner_side c a foot n)
+unfoldable pub inside_triangle : Triangle → Point → Point → Bool
+inside_triangle t foot n = inner_side t.a t.b foot n && (inner_side t.b t.c foot n && inner_side t.c t.a foot n)
 
 -- the nearest of the three edges, the first of equals; a first one of distance NaN stays
-unfoldable pub point_edges : Point → Point → Point → Point → Witness
-point_edges p a b c = smaller_of (smaller_of (point_segment p a b) (point_segment p b c)) (point_segment p c a)
+unfoldable pub point_edges : Point → Triangle → Witness
+point_edges p t = smaller_of (smaller_of (point_segment p t.a t.b) (point_segment p t.b t.c)) (point_segment p t.c t.a)
 
 -- the squared length of the normal is above 0, and the foot lies inside
-unfoldable pub foot_inside : Point → Point → Point → Point → Point → Bool
-foot_inside p a b c n = lt positive_zero (dot_of n n) && inside_triangle a b c (foot_of p a n) n
+unfoldable pub foot_inside : Point → Triangle → Point → Bool
+foot_inside p t n = lt positive_zero (dot_of n n) && inside_triangle t (foot_of p t.a n) n
+
+-- that foot; none where it does not lie inside
+unfoldable pub inner_foot : Point → Triangle → Option Point
+inner_foot p t = cond (foot_inside p t (normal_of t)) (Some (foot_of p t.a (normal_of t))) None
 
 -- the foot where it lies inside, else the nearest edge
-unfoldable pub point_triangle : Point → Point → Point → Point → Witness
-point_triangle p a b c =
-    cond (foot_inside p a b c (normal_of a b c)) (between_of p (foot_of p a (normal_of a b c))) (point_edges p a b c)
+unfoldable pub point_triangle : Point → Triangle → Witness
+point_triangle p t = cond (foot_inside p t (normal_of t)) (between_of p (foot_of p t.a (normal_of t))) (point_edges p t)
 
--- ---- two filled triangles, a b c and d e f (Rust: tri_tri)
+-- ---- two filled triangles (Rust: tri_tri)
 
 -- best, or the smaller of it and the next; a best of distance 0 is kept
 unfoldable pub closer_of : Witness → Witness → Witness
 closer_of best next = cond (eq best.d positive_zero) best (smaller_of best next)
 
--- the segment p q against the edges of a b c
-unfoldable pub segment_edges : Witness → Point → Point → Point → Point → Point → Witness
-segment_edges best p q a b c =
-    closer_of (closer_of (closer_of best (segment_segment p q a b)) (segment_segment p q b c)) (segment_segment p q c a)
+-- the segment p q against the edges of t
+unfoldable pub segment_edges : Witness → Point → Point → Triangle → Witness
+segment_edges best p q t =
+    closer_of (closer_of (closer_of best (segment_segment p q t.a t.b)) (segment_segment p q t.b t.c)) (segment_segment p q t.c t.a)
 
 -- +infinity, with the first vertices as its points
 unfoldable pub infinitely_far : Point → Point → Witness
 infinitely_far a d = witness_of (inf false) a d
 
--- each edge of a b c against each of d e f
-unfoldable pub edge_pairs : Point → Point → Point → Point → Point → Point → Witness
-edge_pairs a b c d e f =
-    segment_edges (segment_edges (segment_edges (infinitely_far a d) a b d e f) b c d e f) c a d e f
+-- each edge of t against each of u
+unfoldable pub edge_pairs : Triangle → Triangle → Witness
+edge_pairs t u =
+    segment_edges (segment_edges (segment_edges (infinitely_far t.a u.a) t.a t.b u) t.b t.c u) t.c t.a u
 
--- each vertex of a b c against the other triangle
-unfoldable pub first_vertices : Witness → Point → Point → Point → Point → Point → Point → Witness
-first_vertices best a b c d e f =
-    smaller_of (smaller_of (smaller_of best (point_triangle a d e f)) (point_triangle b d e f)) (point_triangle c d e f)
+-- each vertex of t against u
+unfoldable pub first_vertices : Witness → Triangle → Triangle → Witness
+first_vertices best t u =
+    smaller_of (smaller_of (smaller_of best (point_triangle t.a u)) (point_triangle t.b u)) (point_triangle t.c u)
 
--- each vertex of d e f against the other triangle, points in the order of the sides
-unfoldable pub second_vertices : Witness → Point → Point → Point → Point → Point → Point → Witness
-second_vertices best a b c d e f =
+-- each vertex of u against t, points in the order of the sides
+unfoldable pub second_vertices : Witness → Triangle → Triangle → Witness
+second_vertices best t u =
     smaller_of
-    (smaller_of (smaller_of best (flipped_of (point_triangle d a b c))) (flipped_of (point_triangle e a b c)))
-    (flipped_of (point_triangle f a b c))
+    (smaller_of (smaller_of best (flipped_of (point_triangle u.a t))) (flipped_of (point_triangle u.b t)))
+    (flipped_of (point_triangle u.c t))
 
 -- edge pairs first, then vertices unless the distance is 0 already. Where every candidate's distance is NaN or +infinity,
 -- it stays +infinity at the first vertices
-unfoldable pub triangle_triangle : Point → Point → Point → Point → Point → Point → Witness
-triangle_triangle a b c d e f =
-    cond (eq (edge_pairs a b c d e f).d positive_zero) (edge_pairs a b c d e f)
-    (second_vertices (first_vertices (edge_pairs a b c d e f) a b c d e f) a b c d e f)
+unfoldable pub triangle_triangle : Triangle → Triangle → Witness
+triangle_triangle t u =
+    cond (eq (edge_pairs t u).d positive_zero) (edge_pairs t u) (second_vertices (first_vertices (edge_pairs t u) t u) t u)

@@ -2,88 +2,36 @@
 // so `pt_seg` and `seg_seg` give their witness with the root not taken, and `pt_tri` and `tri_tri` offer theirs to the best, one by one.
 #![tactic(auto)]
 
-ghost use Rattle.std.specs.Prelude.{◌≡◌, true, [], ◌∷◌, T};
-ghost use Rattle.std.specs.Float.{binary64};
-ghost use Rattle.std.specs.Float.Ieee.{fits};
+ghost use Rattle.std.specs.Prelude.{◌≡◌, true, [], ◌∷◌};
+ghost use Rattle.primitives.specs.declared.Witness.{Witness};
 ghost use Rattle.primitives.specs.Vectors.{dot_of};
-ghost use Rattle.primitives.specs.Witnesses.{between_of, flipped_of};
+ghost use Rattle.primitives.specs.Unrooted.{StandsFor};
 ghost use Rattle.extremes.specs.Sweeps.{shorter, taking};
-ghost use Rattle.extremes.specs.InnerBest.{best_of, Sound, Keeps};
-ghost use Rattle.measures.specs.declared.Triangle.{Triangle};
-ghost use Rattle.measures.specs.Measures.{foot_parameter, point_segment, first_parameter, parameters_of, segment_segment, normal_of, foot_of, inner_side, inside_triangle, foot_inside, point_edges, point_triangle, triangle_triangle};
-ghost use Rattle.measures.specs.InnerUnrooted.{rooted_of, StandsFor};
-ghost use Rattle.measures.specs.InnerOffers.{each_at_least, offered_all, AllSettled, flipped_if, edge_witnesses, vertex_witnesses, shared_by_first, shared_by_second};
+ghost use Rattle.measures.specs.Measures.{foot_parameter, point_segment, first_parameter, parameters_of, segment_segment, normal_of, foot_of, inner_side, inside_triangle, inner_foot, point_edges, point_triangle, triangle_triangle};
+ghost use Rattle.measures.specs.InnerOffers.{offered_all, AllSettled, flipped_if, edge_witnesses, first_two, vertex_witnesses, Spared};
 
-use extremes::Best;
-use primitives::{Point, Witness};
-
-// Two points with the sum of squares of their distance: a witness whose root is not taken.
-#[derive(Clone, Copy)]
-pub struct UnrootedWitness {
-    pub sum: f64,
-    pub a: Point,
-    pub b: Point,
-}
-
-impl UnrootedWitness {
-    // Two points.
-    pub fn between(a: Point, b: Point) -> UnrootedWitness
-        ensures { StandsFor result (between_of a b) }
-    {
-        UnrootedWitness {
-            sum: primitives::dist_sq(a, b),
-            a,
-            b,
-        }
-    }
-
-    // The same sum, its points exchanged.
-    fn flipped(self) -> UnrootedWitness
-        ensures { (w : Witness) → StandsFor self w → StandsFor result (flipped_of w) }
-    {
-        let a = self.a;
-        let b = self.b;
-        UnrootedWitness {
-            sum: self.sum,
-            a: b,
-            b: a,
-        }
-    }
-
-    // The witness, its root taken.
-    pub fn rooted(self) -> Witness
-        ensures { result ≡ rooted_of self }
-    {
-        Witness {
-            d: ieee754::root(self.sum),
-            ax: self.a.x,
-            ay: self.a.y,
-            az: self.a.z,
-            bx: self.b.x,
-            by: self.b.y,
-            bz: self.b.z,
-        }
-    }
-}
+use extremes::{Best, Closest};
+use primitives::{Point, UnrootedWitness};
 
 // Where the foot of the perpendicular from p lies on the segment, within 0..1.
+#[tactic(auto, using(crate::proofs::Literals::zero), unfolding(crate::specs::Measures::foot_parameter, primitives::specs::Vectors::squared_distance))]
 fn foot_parameter(p: Point, a: Point, b: Point) -> f64
     ensures { result ≡ foot_parameter p a b }
 {
-    let ab = primitives::difference(b, a);
-    let len_sq = primitives::dot(ab, ab);
+    let ab = b - a;
+    let len_sq = ab.dot(ab);
     if len_sq == 0.0 {
         return 0.0;
     }
-    let ap = primitives::difference(p, a);
-    ieee754::clamp(primitives::dot(ap, ab) / len_sq)
+    ieee754::clamp((p - a).dot(ab) / len_sq)
 }
 
 // A point and a segment.
+#[tactic(auto, unfolding(crate::specs::Measures::point_segment))]
 pub fn pt_seg(p: Point, a: Point, b: Point) -> UnrootedWitness
     ensures { StandsFor result (point_segment p a b) }
 {
-    UnrootedWitness::between(p, primitives::interpolated(a, b, foot_parameter(p, a, b)))
+    UnrootedWitness::between(p, a.interpolated(b, foot_parameter(p, a, b)))
 }
 
 // The parameters of two segments' nearest points.
@@ -94,6 +42,7 @@ pub struct Parameters {
 }
 
 // The parameter of the first segment; parallel segments take the start.
+#[tactic(auto, using(crate::proofs::Literals::zero), unfolding(crate::specs::Measures::first_parameter))]
 fn first_parameter(a: f64, b: f64, c: f64, e: f64, f: f64) -> f64
     ensures { result ≡ first_parameter a b c e f }
 {
@@ -105,6 +54,7 @@ fn first_parameter(a: f64, b: f64, c: f64, e: f64, f: f64) -> f64
 }
 
 // Solves for both parameters: a second one outside 0..1 is moved to its end, and the first solved again.
+#[tactic(auto, using(crate::proofs::Literals::zero, crate::proofs::Literals::one_is), unfolding(crate::specs::Measures::parameters_of, crate::specs::Measures::within_second))]
 fn solve(a: f64, b: f64, c: f64, e: f64, f: f64) -> Parameters
     ensures { result ≡ parameters_of a b c e f }
 {
@@ -129,51 +79,37 @@ fn solve(a: f64, b: f64, c: f64, e: f64, f: f64) -> Parameters
 fn nearest_parameters(d1: Point, a: f64, d2: Point, e: f64, r: Point) -> Parameters
     ensures { result ≡ parameters_of a (dot_of d1 d2) (dot_of d1 r) e (dot_of d2 r) }
 {
-    let b = primitives::dot(d1, d2);
-    let c = primitives::dot(d1, r);
-    let f = primitives::dot(d2, r);
-    solve(a, b, c, e, f)
+    solve(a, d1.dot(d2), d1.dot(r), e, d2.dot(r))
 }
 
-// 2^-52
-const EPSILON: f64 = 2.220446049250313e-16;
-
 // Two segments; a squared length of at most 2^-52 is taken as a point.
+#[tactic(auto, using(crate::proofs::Literals::epsilon_is), unfolding(crate::specs::Measures::segment_segment, crate::specs::Measures::long_segments, crate::specs::Measures::nearest_parameters, crate::specs::Measures::at_parameters, primitives::specs::Vectors::squared_distance))]
 pub fn seg_seg(p1: Point, q1: Point, p2: Point, q2: Point) -> UnrootedWitness
     ensures { StandsFor result (segment_segment p1 q1 p2 q2) }
 {
-    let d1 = primitives::difference(q1, p1);
-    let d2 = primitives::difference(q2, p2);
-    let a = primitives::dot(d1, d1);
-    let e = primitives::dot(d2, d2);
-    if a <= EPSILON {
-        if e <= EPSILON {
+    let d1 = q1 - p1;
+    let d2 = q2 - p2;
+    let a = d1.dot(d1);
+    let e = d2.dot(d2);
+    if a <= f64::EPSILON {
+        if e <= f64::EPSILON {
             return UnrootedWitness::between(p1, p2);
         }
         return pt_seg(p1, p2, q2);
     }
-    if e <= EPSILON {
+    if e <= f64::EPSILON {
         return pt_seg(p2, p1, q1).flipped();
     }
-    let k = nearest_parameters(d1, a, d2, e, primitives::difference(p1, p2));
-    UnrootedWitness::between(
-        primitives::interpolated(p1, q1, k.s),
-        primitives::interpolated(p2, q2, k.t),
-    )
-}
-
-// The normal of the triangle a b c.
-fn normal(a: Point, b: Point, c: Point) -> Point
-    ensures { result ≡ normal_of a b c }
-{
-    primitives::cross(primitives::difference(b, a), primitives::difference(c, a))
+    let k = nearest_parameters(d1, a, d2, e, p1 - p2);
+    UnrootedWitness::between(p1.interpolated(q1, k.s), p2.interpolated(q2, k.t))
 }
 
 // The foot of the perpendicular from p to the plane through a with the normal n.
-fn foot(p: Point, a: Point, n: Point) -> Point
+#[tactic(auto, unfolding(crate::specs::Measures::foot_of, crate::specs::Measures::back_along))]
+pub fn foot(p: Point, a: Point, n: Point) -> Point
     ensures { result ≡ foot_of p a n }
 {
-    let k = primitives::dot(primitives::difference(p, a), n) / primitives::dot(n, n);
+    let k = (p - a).dot(n) / n.dot(n);
     Point {
         x: p.x - k * n.x,
         y: p.y - k * n.y,
@@ -181,50 +117,12 @@ fn foot(p: Point, a: Point, n: Point) -> Point
     }
 }
 
-// Whether the foot lies on the inner side of the edge from u to v, or on it.
-fn inner_side(u: Point, v: Point, foot: Point, n: Point) -> bool
-    ensures { result ≡ inner_side u v foot n }
+// Whether x lies on the inner side of the edge from u to v of a triangle with the normal n, or on it.
+#[tactic(auto, using(crate::proofs::Literals::zero), unfolding(crate::specs::Measures::inner_side))]
+fn inner_side(u: Point, v: Point, x: Point, n: Point) -> bool
+    ensures { result ≡ inner_side u v x n }
 {
-    let edge = primitives::difference(v, u);
-    let to_foot = primitives::difference(foot, u);
-    primitives::dot(primitives::cross(edge, to_foot), n) >= 0.0
-}
-
-// Whether the foot of a perpendicular lies inside the triangle a b c with the normal n.
-fn inside_triangle(a: Point, b: Point, c: Point, foot: Point, n: Point) -> bool
-    ensures { result ≡ inside_triangle a b c foot n }
-{
-    if inner_side(a, b, foot, n) {
-        if inner_side(b, c, foot, n) {
-            return inner_side(c, a, foot, n);
-        }
-    }
-    false
-}
-
-// The foot of a perpendicular to a triangle's plane, and whether it lies inside the triangle.
-#[derive(Clone, Copy)]
-pub struct PlaneFoot {
-    pub inside: bool,
-    pub foot: Point,
-}
-
-// The foot of the perpendicular from p to the plane of a b c; not inside where the normal's squared length is not above 0.
-pub fn plane_foot(p: Point, a: Point, b: Point, c: Point) -> PlaneFoot
-    ensures { (result.inside ≡ foot_inside p a b c (normal_of a b c)) × (result.foot ≡ foot_of p a (normal_of a b c)) }
-{
-    let n = normal(a, b, c);
-    let f = foot(p, a, n);
-    if primitives::dot(n, n) > 0.0 {
-        return PlaneFoot {
-            inside: inside_triangle(a, b, c, f, n),
-            foot: f,
-        };
-    }
-    PlaneFoot {
-        inside: false,
-        foot: f,
-    }
+    (v - u).cross(x - u).dot(n) >= 0.0
 }
 
 // A filled triangle.
@@ -235,97 +133,114 @@ pub struct Triangle {
     pub c: Point,
 }
 
-// The closer of the best and the witness of s, its points exchanged where that is asked for. No root is taken where the sum is not less than the best's.
-pub fn offered(best: Best, s: UnrootedWitness, flip: bool) -> Best
-    requires sound { Sound best }
-    requires t { T (fits binary64 s.sum) }
-    ensures { Keeps result (taking shorter (best_of best) (flipped_if flip (rooted_of s))) }
-{
-    let sum = s.sum;
-    if sum >= best.sum {
-        return best;
+impl Triangle {
+    #[tactic(auto, unfolding(crate::specs::Measures::normal_of))]
+    pub fn normal(self) -> Point
+        ensures { result ≡ normal_of self }
+    {
+        (self.b - self.a).cross(self.c - self.a)
     }
-    let found = s.rooted();
-    let w = if flip { found.flipped() } else { found };
-    best.closer(sum, w)
-}
 
-// Whether each of three sums of squares is at least the best's.
-fn each_at_least(least: f64, x: f64, y: f64, z: f64) -> bool
-    ensures { result ≡ each_at_least least x y z }
-{
-    if x >= least {
-        if y >= least {
-            return z >= least;
+    // Whether the point x of its plane lies inside, the normal being n. Since `crossings` calls it too, it is a call in rule 1's sweep without
+    // the hint.
+    #[inline(always)]
+    #[tactic(auto, unfolding(crate::specs::Measures::inside_triangle))]
+    pub fn contains(self, x: Point, n: Point) -> bool
+        ensures { result ≡ inside_triangle self x n }
+    {
+        inner_side(self.a, self.b, x, n)
+            && inner_side(self.b, self.c, x, n)
+            && inner_side(self.c, self.a, x, n)
+    }
+
+    // The foot of the perpendicular from p to its plane, where it lies inside; none where the normal's squared length is not above 0.
+    #[tactic(auto, using(crate::proofs::Literals::zero), unfolding(crate::specs::Measures::inner_foot, crate::specs::Measures::foot_inside))]
+    pub fn inner_foot(self, p: Point) -> Option<Point>
+        ensures { result ≡ inner_foot p self }
+    {
+        let n = self.normal();
+        let x = foot(p, self.a, n);
+        if n.dot(n) > 0.0 && self.contains(x, n) {
+            Some(x)
+        } else {
+            None
         }
     }
-    false
+
+    // Whether its last vertex has the bits of its first.
+    fn ends_at_start(self) -> bool
+        ensures { result ≡ true → self.a ≡ self.c }
+    {
+        same(self.a, self.c)
+    }
+}
+
+// The same sum, its points exchanged where that is asked for.
+fn turned(s: UnrootedWitness, flip: bool) -> UnrootedWitness
+    ensures { (w : Witness) → StandsFor s w → StandsFor result (flipped_if flip w) }
+{
+    if flip { s.flipped() } else { s }
 }
 
 // A point and the nearest of a triangle's edges, edge by edge; the first is kept where its distance is NaN.
-fn pt_edges(best: Best, p: Point, t: Triangle, flip: bool) -> Best
-    requires { Sound best }
-    ensures { Keeps result (taking shorter (best_of best) (flipped_if flip (point_edges p t.a t.b t.c))) }
+#[tactic(auto, using(crate::proofs::BestWitness::stands_distance, crate::proofs::NearestEdge::edges_leave, crate::proofs::NearestEdge::edges_offered, crate::proofs::NearestEdge::first_kept, crate::proofs::Literals::zero))]
+fn pt_edges(best: Best<Closest>, p: Point, t: Triangle, flip: bool) -> Best<Closest>
+    ensures { result ≡ taking shorter best (flipped_if flip (point_edges p t)) }
 {
-    let a = t.a;
-    let b = t.b;
-    let c = t.c;
+    let Triangle { a, b, c } = t;
     let x = pt_seg(p, a, b);
     let y = pt_seg(p, b, c);
     let z = pt_seg(p, c, a);
-    if each_at_least(best.sum, x.sum, y.sum, z.sum) {
+    if best.excludes(x.sum) && best.excludes(y.sum) && best.excludes(z.sum) {
         return best;
     }
-    let first = offered(best, x, flip);
+    let first = best.offer(turned(x, flip));
     if x.sum >= 0.0 {
-        return offered(offered(first, y, flip), z, flip);
+        return first.offer(turned(y, flip)).offer(turned(z, flip));
     }
     first
 }
 
 // A point and a filled triangle: the foot where it lies inside, else the nearest edge.
-pub fn pt_tri(best: Best, p: Point, t: Triangle, flip: bool) -> Best
-    requires { Sound best }
-    ensures { Keeps result (taking shorter (best_of best) (flipped_if flip (point_triangle p t.a t.b t.c))) }
+#[tactic(auto, using(crate::proofs::NearestEdge::foot_measured, crate::proofs::NearestEdge::edges_measured))]
+pub fn pt_tri(best: Best<Closest>, p: Point, t: Triangle, flip: bool) -> Best<Closest>
+    ensures { result ≡ taking shorter best (flipped_if flip (point_triangle p t)) }
 {
-    let a = t.a;
-    let b = t.b;
-    let c = t.c;
-    let f = plane_foot(p, a, b, c);
-    if f.inside {
-        let foot = f.foot;
-        return offered(best, UnrootedWitness::between(p, foot), flip);
+    match t.inner_foot(p) {
+        Some(foot) => best.offer(turned(UnrootedWitness::between(p, foot), flip)),
+        None => pt_edges(best, p, t, flip),
     }
-    pt_edges(best, p, t, flip)
 }
 
-// The segment p q against the edges of a triangle a b c; a best of distance 0 stays. Where the edge b c was measured before, it is spared.
-pub fn seg_edges(best: Best, p: Point, q: Point, t: Triangle, closes: bool) -> Best
-    requires sound { Sound best }
-    requires c_value { closes ≡ true → taking shorter (best_of best) (segment_segment p q t.b t.c) ≡ best_of best }
-    ensures { Keeps result (offered_all (best_of best) (edge_witnesses p q t.a t.b t.c)) }
+// The segment p q against the edges of a triangle; a best of distance 0 stays. Where the edge b c was measured before, it is spared.
+#[tactic(auto, using(crate::proofs::TwoTriangles::zero_edges, crate::proofs::BestWitness::stands_distance, crate::proofs::Settled::stays, crate::proofs::NotBelowZero::segment_segment_lem))]
+pub fn seg_edges(
+    best: Best<Closest>,
+    p: Point,
+    q: Point,
+    t: Triangle,
+    closes: bool,
+) -> Best<Closest>
+    requires { closes ≡ true → taking shorter best (segment_segment p q t.b t.c) ≡ best }
+    ensures { result ≡ offered_all best (edge_witnesses p q t) }
 {
-    if best.sum == 0.0 {
+    let Triangle { a, b, c } = t;
+    if best.is_zero() {
         return best;
     }
-    let a = t.a;
-    let b = t.b;
-    let c = t.c;
     let x = seg_seg(p, q, a, b);
     let z = seg_seg(p, q, c, a);
     if closes {
-        if x.sum >= best.sum {
-            if z.sum >= best.sum {
-                return best;
-            }
+        if best.excludes(x.sum) && best.excludes(z.sum) {
+            return best;
         }
-        return offered(offered(best, x, false), z, false);
+        return best.offer(x).offer(z);
     }
     let y = seg_seg(p, q, b, c);
-    if each_at_least(best.sum, x.sum, y.sum, z.sum) {
+    if best.excludes(x.sum) && best.excludes(y.sum) && best.excludes(z.sum) {
         return best;
     }
-    offered(offered(offered(best, x, false), y, false), z, false)
+    best.offer(x).offer(y).offer(z)
 }
 
 // Whether two floats have the same bits.
@@ -339,82 +254,104 @@ fn same_bits(x: f64, y: f64) -> bool
 fn same(a: Point, b: Point) -> bool
     ensures { result ≡ true → a ≡ b }
 {
-    if same_bits(a.x, b.x) {
-        if same_bits(a.y, b.y) {
-            return same_bits(a.z, b.z);
-        }
-    }
-    false
+    same_bits(a.x, b.x) && same_bits(a.y, b.y) && same_bits(a.z, b.z)
 }
 
-// Each vertex of a triangle a b c against another; a best of distance 0 stays. Where a and b were measured before, they are spared, and so is c where it is a.
-fn vertices(best: Best, t: Triangle, other: Triangle, flip: bool, again: bool) -> Best
-    requires sound { Sound best }
-    requires all_settled { again ≡ true → AllSettled (best_of best) (flipped_if flip (point_triangle t.a other.a other.b other.c) ∷ flipped_if flip (point_triangle t.b other.a other.b other.c) ∷ []) }
-    ensures { Keeps result (offered_all (best_of best) (vertex_witnesses flip t.a t.b t.c other.a other.b other.c)) }
+// The first two vertices of a triangle against another, unless they were measured before.
+#[tactic(auto, unfolding(crate::specs::InnerOffers::AllSettled))]
+fn first_two(
+    best: Best<Closest>,
+    t: Triangle,
+    other: Triangle,
+    flip: bool,
+    again: bool,
+) -> Best<Closest>
+    requires { again ≡ true → AllSettled best (first_two flip t other) }
+    ensures { result ≡ offered_all best (first_two flip t other) }
 {
-    if best.sum == 0.0 {
+    if again {
         return best;
     }
-    let a = t.a;
-    let b = t.b;
-    let c = t.c;
-    if again {
-        if same(a, c) {
-            return best;
-        }
-        return pt_tri(best, c, other, flip);
-    }
-    let first = pt_tri(best, a, other, flip);
-    let second = pt_tri(first, b, other, flip);
-    if same(a, c) {
-        return second;
-    }
-    pt_tri(second, c, other, flip)
+    pt_tri(pt_tri(best, t.a, other, flip), t.b, other, flip)
 }
 
-// Whether a triangle a b c follows a measured one and ends a closed ring: c is a.
-fn closes_ring(follows: bool, a: Point, c: Point) -> bool
-    ensures { result ≡ true → (follows ≡ true) × (a ≡ c) }
+// Each vertex of a triangle against another; a best of distance 0 stays. Where a and b were measured before, they are spared, and so is c where it is a.
+#[tactic(auto, using(crate::proofs::TwoTriangles::zero_vertices, crate::proofs::Settled::again_later, crate::proofs::TwoTriangles::vertices_distant))]
+fn vertices(
+    best: Best<Closest>,
+    t: Triangle,
+    other: Triangle,
+    flip: bool,
+    again: bool,
+) -> Best<Closest>
+    requires { again ≡ true → AllSettled best (first_two flip t other) }
+    ensures { result ≡ offered_all best (vertex_witnesses flip t other) }
 {
-    if follows {
-        return same(a, c);
+    if best.is_zero() {
+        return best;
     }
-    false
+    let both = first_two(best, t, other, flip, again);
+    if t.ends_at_start() {
+        return both;
+    }
+    pt_tri(both, t.c, other, flip)
 }
 
-// Two filled triangles: +infinity, each pair of edges, then the vertices of each against the other. What each shares with the one before it in its fan is spared where that one was measured (follows_t, follows_u).
-pub fn tri_tri(best: Best, t: Triangle, u: Triangle, follows_t: bool, follows_u: bool) -> Best
-    requires sound { Sound best }
-    requires all_settled { follows_t ≡ true → AllSettled (best_of best) (shared_by_first t.a t.b u.a u.b u.c) }
-    requires all_settled_2 { follows_u ≡ true → AllSettled (best_of best) (shared_by_second t.a t.b t.c u.a u.b) }
-    ensures { Keeps result (taking shorter (best_of best) (triangle_triangle t.a t.b t.c u.a u.b u.c)) }
+// Whether a triangle follows a measured one in its fan and ends a closed ring: its last vertex is its first.
+fn closes_ring(t: Triangle, follows: bool) -> bool
+    ensures { result ≡ true → (follows ≡ true) × (t.a ≡ t.c) }
 {
-    let a = t.a;
-    let b = t.b;
-    let c = t.c;
-    let d = u.a;
-    let f = u.c;
+    follows && t.ends_at_start()
+}
+
+// Which of the two items of a pair follows one of its run that was measured: what it shares with that one is settled.
+#[derive(Clone, Copy)]
+pub struct Follows {
+    pub first: bool,
+    pub second: bool,
+}
+
+impl Follows {
+    pub const NEITHER: Follows = Follows {
+        first: false,
+        second: false,
+    };
+}
+
+// The edge b c of t against the edges of u, unless t follows a measured triangle and ends a closed ring.
+fn middle_edge(
+    best: Best<Closest>,
+    t: Triangle,
+    u: Triangle,
+    t_closes: bool,
+    u_closes: bool,
+) -> Best<Closest>
+    requires t_closes { t_closes ≡ true → offered_all best (edge_witnesses t.b t.c u) ≡ best }
+    requires u_closes { u_closes ≡ true → taking shorter best (segment_segment t.b t.c u.b u.c) ≡ best }
+    ensures { result ≡ offered_all best (edge_witnesses t.b t.c u) }
+{
+    if t_closes {
+        return best;
+    }
+    seg_edges(best, t.b, t.c, u, u_closes)
+}
+
+// Two filled triangles: +infinity, each pair of edges, then the vertices of each against the other. What each shares with the one before it in its fan is spared where it follows that one.
+pub fn tri_tri(best: Best<Closest>, t: Triangle, u: Triangle, follows: Follows) -> Best<Closest>
+    requires { Spared t u follows best }
+    ensures { result ≡ taking shorter best (triangle_triangle t u) }
+{
     let infinity = UnrootedWitness {
-        sum: 1.0 / 0.0,
-        a,
-        b: d,
+        sum: f64::INFINITY,
+        a: t.a,
+        b: u.a,
     };
-    let start = offered(best, infinity, false);
-    let t_closes = closes_ring(follows_t, a, c);
-    let u_closes = closes_ring(follows_u, d, f);
-    let first = seg_edges(start, a, b, u, u_closes);
-    let second = if t_closes {
-        first
-    } else {
-        seg_edges(first, b, c, u, u_closes)
-    };
-    let third = seg_edges(second, c, a, u, u_closes);
-    vertices(
-        vertices(third, t, u, false, follows_t),
-        u,
-        t,
-        true,
-        follows_u,
-    )
+    let t_closes = closes_ring(t, follows.first);
+    let u_closes = closes_ring(u, follows.second);
+    let start = best.offer(infinity);
+    let first = seg_edges(start, t.a, t.b, u, u_closes);
+    let second = middle_edge(first, t, u, t_closes, u_closes);
+    let third = seg_edges(second, t.c, t.a, u, u_closes);
+    let fourth = vertices(third, t, u, false, follows.first);
+    vertices(fourth, u, t, true, follows.second)
 }

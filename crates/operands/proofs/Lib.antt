@@ -1,4 +1,3 @@
 -- The checks of two operands in order, and what their answer means.
 pub mod Order
-pub mod Answers
 pub mod Meaning

@@ -3,10 +3,13 @@
 use Prim.Native.Nat.{ℕ}
 use mathlib.Core.Path.{◌≡◌, refl, sym, ap, ◌∙◌}
 use mathlib.Core.List.{List, ◌++◌}
-use mathlib.Core.Option.{Option, none, some}
+use Rattle.std.specs.Prelude.{Option, None, Some}
 use lib.ListN.{length}
 use lib.Ieee.{Float}
 use Rattle.refusals.specs.Checks.{Check, first_of, on_side}
+use Rattle.refusals.specs.declared.Reason.{Reason}
+use Rattle.refusals.specs.declared.Side.{Side}
+use Rattle.refusals.specs.declared.Side.TheVariants.{First, Second}
 use Rattle.refusals.specs.declared.Refusal.{Refusal}
 use Rattle.refusals.proofs.Sides.{first_on_side, first_of_two}
 use Rattle.gpb.specs.Written.{point_bytes}
@@ -19,7 +22,7 @@ use Rattle.blob.specs.Ignored.{SameButIgnored}
 use Rattle.blob.proofs.Ignored.{ignored_changes_nothing}
 use Rattle.parts.specs.Points.{point_of}
 use Rattle.primitives.specs.declared.Witness.{Witness}
-use Rattle.operands.specs.Operands.{Workspaces, workspace_checks, operand_checks, lent_checks}
+use Rattle.operands.specs.Operands.{Workspaces, both_checks, workspace_checks, operand_checks, lent_checks}
 use Rattle.outcomes.specs.Answers.{Report, answering}
 use Rattle.outcomes.specs.Operations.{outcome, tolerance_checks, rule_checks, output_checks, unless, vertex_points, farthest_pair, closest_pair, distance_value, within_value, touching_value, blob_value, max_distance, fully_within, line_checks, longest_line, distance, within, intersects, closest_point, shortest_line}
 use Rattle.outcomes.specs.Alike.{MeasuredAlike, SameZTest, AnswersAlike, PairsAnsweredAlike}
@@ -59,18 +62,17 @@ module _ (s t : List ℕ) (same : MeasuredAlike s t) where
 pub two_alike : {A : Type 0} (cs cs' ds ds' : List (Check A)) → first_of cs ≡ first_of cs' → first_of ds ≡ first_of ds' → first_of (cs ++ ds) ≡ first_of (cs' ++ ds')
 two_alike cs cs' ds ds' p q = first_of_two cs ds ∙ (rw (p, q) (sym (first_of_two cs' ds')))
 
-pub side_alike : (side : ℕ) (cs cs' : List (Check ℕ)) → first_of cs ≡ first_of cs' → first_of (on_side side cs) ≡ first_of (on_side side cs')
+pub side_alike : (side : Side) (cs cs' : List (Check Reason)) → first_of cs ≡ first_of cs' → first_of (on_side side cs) ≡ first_of (on_side side cs')
 side_alike side cs cs' p = first_on_side side cs ∙ (rw p (sym (first_on_side side cs')))
 
 -- ---- outcomes
 
 pub alike : (x y : Option Refusal) (r r' : Report) (m m' w : Workspaces) (o o' l : List ℕ) → x ≡ y → r ≡ r' → o ≡ o' → AnswersAlike (unless x (outcome r m o) w l) (unless y (outcome r' m' o') w l)
-unfolding unless
 alike x y r r' m m' w o o' l e p q = rw e (go y)
   where
     go : (z : Option Refusal) → AnswersAlike (unless z (outcome r m o) w l) (unless z (outcome r' m' o') w l)
-    go none = record { report = p; output = q }
-    go (some t) = record { report = refl; output = refl }
+    go None = record { report = p; output = q }
+    go (Some t) = record { report = refl; output = refl }
 
 module _ (a a' b b' : List ℕ) (first : MeasuredAlike a a') (first_z : SameZTest a a') (second : MeasuredAlike b b') (second_z : SameZTest b b') where
   -- ---- the pairs
@@ -79,22 +81,20 @@ module _ (a a' b b' : List ℕ) (first : MeasuredAlike a a') (first_z : SameZTes
   vertices_alike s t h = sym (vertices_map point_of (runs_of_blob s)) ∙ (ap vertices_of h.points ∙ vertices_map point_of (runs_of_blob t))
 
   farthest_alike : farthest_pair a b ≡ farthest_pair a' b'
-  unfolding farthest_pair
   farthest_alike = rw (vertices_alike a a' first, vertices_alike b b' second)
 
   closest_alike : (rule : ℕ) → closest_pair rule a b ≡ closest_pair rule a' b'
-  unfolding closest_pair
   closest_alike rule = rw (first.points, second.points)
 
   module _ (w : Workspaces) where
     lent_alike : first_of (lent_checks a b w) ≡ first_of (lent_checks a' b' w)
-    unfolding operand_checks workspace_checks
+    unfolding both_checks operand_checks workspace_checks
     lent_alike =
-        two_alike _ _ _ _ (side_alike 1 _ _ first_z)
-        (two_alike _ _ _ _ (side_alike 2 _ _ second_z)
-        (two_alike _ _ _ _ (side_alike 1 _ _ first.walk)
-        (two_alike _ _ _ _ (side_alike 2 _ _ second.walk)
-        (rw (coordinates_alike a a' first, runs_alike a a' first, coordinates_alike b b' second, runs_alike b b' second)))))
+        two_alike _ _ _ _
+        (two_alike _ _ _ _ (side_alike First _ _ first_z)
+        (two_alike _ _ _ _ (side_alike Second _ _ second_z)
+        (two_alike _ _ _ _ (side_alike First _ _ first.walk) (side_alike Second _ _ second.walk))))
+        (rw (coordinates_alike a a' first, runs_alike a a' first, coordinates_alike b b' second, runs_alike b b' second))
 
     line_alike : (lent : List ℕ) → first_of (line_checks a b w lent) ≡ first_of (line_checks a' b' w lent)
     unfolding line_checks

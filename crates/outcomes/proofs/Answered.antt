@@ -1,62 +1,68 @@
 -- The outcome that a swept pair makes, whichever pair it is: what is reported and written of it. Assumes nothing.
-use mathlib.Core.Path.{◌≡◌, refl, ap, ◌∙◌}
+use mathlib.Core.Path.{◌≡◌, refl, sym, ◌∙◌}
 use mathlib.Core.List.{List, []}
-use mathlib.Core.Option.{Option, none, some}
 use Prim.Native.Nat.{ℕ}
 use lib.Ieee.{Float, le, eq}
+use Rattle.std.specs.Prelude.{Option, None, Some, Result, Ok, Err}
 use Rattle.ieee754.specs.MinMax.{positive_zero}
+use Rattle.refusals.specs.Checks.{refused_or}
 use Rattle.refusals.specs.declared.Refusal.{Refusal}
+use Rattle.refusals.proofs.Checks.{refused_is, accepted_is}
 use Rattle.gpb.specs.Header.{srid_of}
 use Rattle.primitives.specs.declared.Witness.{Witness}
-use Rattle.extremes.specs.Found.{answer_of}
 use Rattle.operands.specs.Operands.{Workspaces, filled}
-use Rattle.outcomes.specs.Answers.{Value, Report, answering, answer_report}
-use Rattle.outcomes.specs.Operations.{outcome, unless, distance_value, within_value, touching_value, blob_value}
-use Rattle.outcomes.specs.Inner.{memory_by, swept_of, swept_by, PairSwept, swept_answer, decided_report, swept_report, swept_output, SweptWritten}
+use Rattle.outcomes.specs.Answers.{Value, Report, answering, refusing, answer_report}
+use Rattle.outcomes.specs.Operations.{Outcome, outcome, unless, distance_value, within_value, touching_value, blob_value}
+use Rattle.outcomes.specs.Inner.{memory_by, swept_of, pair_of, PairSwept, answer_of_swept, decided_report, swept_output}
 use Rattle.outcomes.specs.declared.Swept.{Swept}
-use Rattle.outcomes.specs.declared.Swept.TheVariants as swept
+
+-- what is reported of a sweep, by the value of its pair
+abbrev pub swept_report : (Option Witness → Value) → Result (Option Swept) Refusal → Report
+swept_report value (Ok s) = answering (value (pair_of s))
+swept_report value (Err r) = refusing r
 
 -- the pair's distance, and what is decided of it, as the operations' values have it
-pub swept_measured : (r : Swept) → answer_report (swept_answer r) ≡ swept_report distance_value r
-unfolding answer_report swept_answer swept_report distance_value
-swept_measured (swept.Refused t) = refl
-swept_measured swept.Nothing = refl
-swept_measured (swept.Found x srid) = refl
+pub swept_measured : (r : Result (Option Swept) Refusal) → answer_report (answer_of_swept r) ≡ swept_report distance_value r
+swept_measured (Err t) = refl
+swept_measured (Ok None) = refl
+swept_measured (Ok (Some s)) = refl
 
-pub swept_within : (d : Float) (r : Swept) → decided_report (λ m. le m d) (swept_answer r) ≡ swept_report (within_value d) r
-unfolding decided_report swept_answer swept_report within_value
-swept_within d (swept.Refused t) = refl
-swept_within d swept.Nothing = refl
-swept_within d (swept.Found x srid) = refl
+pub swept_within : (d : Float) (r : Result (Option Swept) Refusal) → decided_report (λ m. le m d) (answer_of_swept r) ≡ swept_report (within_value d) r
+swept_within d (Err t) = refl
+swept_within d (Ok None) = refl
+swept_within d (Ok (Some s)) = refl
 
-pub swept_touching : (r : Swept) → decided_report (λ m. eq m positive_zero) (swept_answer r) ≡ swept_report touching_value r
-unfolding decided_report swept_answer swept_report touching_value
-swept_touching (swept.Refused t) = refl
-swept_touching swept.Nothing = refl
-swept_touching (swept.Found x srid) = refl
+pub swept_touching : (r : Result (Option Swept) Refusal) → decided_report (λ m. eq m positive_zero) (answer_of_swept r) ≡ swept_report touching_value r
+swept_touching (Err t) = refl
+swept_touching (Ok None) = refl
+swept_touching (Ok (Some s)) = refl
 
 -- ---- the outcome
 
--- with no output nothing is written
-unwritten : (r : Swept) → [] ≡ swept_output (λ srid p l. l) r []
-unfolding swept_output
-unwritten (swept.Refused t) = refl
-unwritten swept.Nothing = refl
-unwritten (swept.Found x srid) = refl
+pair_again : (srid : ℕ) (p : Option Witness) → pair_of (swept_of srid p) ≡ p
+pair_again srid None = refl
+pair_again srid (Some x) = refl
 
-module _ {first : Option Refusal} {p : Option Witness} {a b : List ℕ} {w w' : Workspaces} {r : Swept} (pair : PairSwept first p a b w w' r) where
-  -- the outcome, by what is reported and written of the pair
-  made : (value : Option Witness → Value) (after : ℕ → Option Witness → List ℕ → List ℕ) → ((srid : ℕ) (l : List ℕ) → after srid none l ≡ l) → (lent : List ℕ) → outcome (swept_report value r) w' (swept_output after r lent) ≡ unless first (outcome (answering (value p)) (filled a b w) (after (srid_of a) p lent)) w lent
-  unfolding unless memory_by swept_by swept_of answer_of swept_report swept_output
-  made value after kept lent = rw (pair.answer, pair.memory) (go first p)
-    where
-      go : (x : Option Refusal) (p : Option Witness) → outcome (swept_report value (swept_by x p (srid_of a))) (memory_by x a b w) (swept_output after (swept_by x p (srid_of a)) lent) ≡ unless x (outcome (answering (value p)) (filled a b w) (after (srid_of a) p lent)) w lent
-      go (some t) p = refl
-      go none none = rw (kept (srid_of a) lent)
-      go none (some x) = refl
+module _ {first : Option Refusal} {p : Option Witness} {a b : List ℕ} {w w' : Workspaces} {r : Result (Option Swept) Refusal} (pair : PairSwept first p a b w w' r) where
+  -- refused: the refusal is reported, and nothing is written
+  pub refused : {e : Refusal} → r ≡ Err e → (accepted : Outcome) (lent : List ℕ) → outcome (refusing e) w' lent ≡ unless first accepted w lent
+  refused {e} q accepted lent = rw (pair.memory, refused_is first _ e (sym pair.answer ∙ q))
 
+  -- no output is written
   pub told : (value : Option Witness → Value) {report : Report} → report ≡ swept_report value r → outcome report w' [] ≡ unless first (outcome (answering (value p)) (filled a b w) []) w []
-  told value e = rw e (ap (outcome (swept_report value r) w') (unwritten r) ∙ made value (λ srid p l. l) (λ srid l. refl) [])
+  told value e = rw (e, pair.answer, pair.memory) (go first)
+    where
+      go : (x : Option Refusal) → outcome (swept_report value (refused_or x (swept_of (srid_of a) p))) (memory_by x a b w) [] ≡ unless x (outcome (answering (value p)) (filled a b w) []) w []
+      go (Some t) = refl
+      go None = rw (pair_again (srid_of a) p)
 
-  pub written : (after : ℕ → Option Witness → List ℕ → List ℕ) → ((srid : ℕ) (l : List ℕ) → after srid none l ≡ l) → {lent output : List ℕ} {report : Report} → SweptWritten after r lent output report → outcome report w' output ≡ unless first (outcome (answering (blob_value p)) (filled a b w) (after (srid_of a) p lent)) w lent
-  written after kept {lent} e = rw (e.told, e.left) (made blob_value after kept lent)
+  -- the pair is written
+  pub written : (after : ℕ → Option Witness → List ℕ → List ℕ) → ((srid : ℕ) (l : List ℕ) → after srid None l ≡ l) → {s : Option Swept} → r ≡ Ok s → {v : Value} → v ≡ blob_value (pair_of s) → (lent : List ℕ) {output : List ℕ} → output ≡ swept_output after s lent
+      → outcome (answering v) w' output ≡ unless first (outcome (answering (blob_value p)) (filled a b w) (after (srid_of a) p lent)) w lent
+  written after kept {s} q says lent e =
+      let n = accepted_is first (swept_of (srid_of a) p) s (sym pair.answer ∙ q) in
+      rw (says, e, pair.memory, n.0, ← n.1) (go p)
+    where
+      go : (p : Option Witness) → outcome (answering (blob_value (pair_of (swept_of (srid_of a) p)))) (filled a b w) (swept_output after (swept_of (srid_of a) p) lent) ≡ outcome (answering (blob_value p)) (filled a b w) (after (srid_of a) p lent)
+      go None = rw (kept (srid_of a) lent)
+      go (Some x) = refl

@@ -3,9 +3,8 @@ use mathlib.Core.Path.{◌≡◌, refl, sym, ◌∙◌}
 use mathlib.Core.Logic.{◌↔◌, ◌⊎◌}
 use mathlib.Core.Bool.{Bool, true, false, cond}
 use mathlib.Core.List.{List, [], ◌++◌}
-use mathlib.Core.Option.{Option, none, some}
+use Rattle.std.specs.Prelude.{Option, None, Some}
 use Prim.Native.Nat.{ℕ}
-use native.Mathlib.Omega.{arith}
 use lib.Dec.{eqb}
 use lib.Ieee.{Float, eq}
 use Rattle.ieee754.specs.MinMax.{positive_zero}
@@ -31,16 +30,14 @@ pub record IsZero (report : Report) : Type 0 where
   pub zero : eq d positive_zero ≡ true
 
 yes_is_zero : (first : Option Refusal) (p : Option Witness) (full w : Workspaces) → (unless first (outcome (answering (touching_value p)) full []) w []).report ≡ answering (decided true) → IsZero (unless first (outcome (answering (distance_value p)) full []) w []).report
-unfolding unless touching_value distance_value
-yes_is_zero (some r) p full w e = let z : ◌≡◌ {A = ℕ} 0 1 = cc in absurd (omega arith)
-yes_is_zero none none full w e = let z : ◌≡◌ {A = ℕ} 0 1 = cc in absurd (omega arith)
-yes_is_zero none (some x) full w e = record { d = x.d; measured = refl; zero = cc }
+yes_is_zero (Some r) p full w e = cc
+yes_is_zero None None full w e = cc
+yes_is_zero None (Some x) full w e = record { d = x.d; measured = refl; zero = cc }
 
 zero_is_yes : (first : Option Refusal) (p : Option Witness) (full w : Workspaces) → IsZero (unless first (outcome (answering (distance_value p)) full []) w []).report → (unless first (outcome (answering (touching_value p)) full []) w []).report ≡ answering (decided true)
-unfolding unless touching_value distance_value
-zero_is_yes (some r) p full w h = let e = h.measured in let z : ◌≡◌ {A = ℕ} 0 1 = cc in absurd (omega arith)
-zero_is_yes none none full w h = let e = h.measured in let z : ◌≡◌ {A = ℕ} 0 1 = cc in absurd (omega arith)
-zero_is_yes none (some x) full w h = let e = h.measured in let same : x.d ≡ h.d = cc in rw (same, h.zero)
+zero_is_yes (Some r) p full w h = let e = h.measured in cc
+zero_is_yes None None full w h = let e = h.measured in cc
+zero_is_yes None (Some x) full w h = let e = h.measured in let same : x.d ≡ h.d = cc in rw (same, h.zero)
 
 -- yes exactly where the distance is 0, of every call
 pub intersects_exactly : (a b : List ℕ) (rule : ℕ) (w : Workspaces) → ((intersects a b rule w).report ≡ answering (decided true)) ↔ IsZero (distance a b rule w).report
@@ -51,14 +48,12 @@ intersects_exactly a b rule w =
 
 -- ---- none
 
-no_distance_exactly : (p : Option Witness) → (answering (distance_value p) ≡ answering nothing) ↔ (p ≡ none)
-unfolding distance_value
-no_distance_exactly none = (λ e. refl, λ e. refl)
-no_distance_exactly (some x) = (λ e. cc, λ e. cc)
+no_distance_exactly : (p : Option Witness) → (answering (distance_value p) ≡ answering nothing) ↔ (p ≡ None)
+no_distance_exactly None = (λ e. refl, λ e. refl)
+no_distance_exactly (Some x) = (λ e. cc, λ e. cc)
 
 -- the report of an accepted call
-accepted_report : (first : Option Refusal) → first ≡ none → (o : Outcome) (w : Workspaces) (lent : List ℕ) → (unless first o w lent).report ≡ o.report
-unfolding unless
+accepted_report : (first : Option Refusal) → first ≡ None → (o : Outcome) (w : Workspaces) (lent : List ℕ) → (unless first o w lent).report ≡ o.report
 accepted_report first e o w lent = rw e
 
 -- a side has no point, segment or triangle
@@ -66,29 +61,29 @@ abbrev pub NoItem : List ℕ → List ℕ → Type 0
 NoItem a b = (items_of_blob a ≡ []) ⊎ (items_of_blob b ≡ [])
 
 module _ (a b : List ℕ) (rule : ℕ) (w : Workspaces) where
-  no_pair_exactly : (closest_pair rule a b ≡ none) ↔ NoItem a b
-  unfolding closest_pair closest_by_rule
+  no_pair_exactly : (closest_pair rule a b ≡ None) ↔ NoItem a b
+  unfolding closest_by_rule
   no_pair_exactly = go (eqb rule 2)
     where
-      go : (second : Bool) → (cond second (closest_by_rule2 (items_of_blob a) (items_of_blob b)) (closest_of (items_of_blob a) (items_of_blob b)) ≡ none) ↔ NoItem a b
+      go : (second : Bool) → (cond second (closest_by_rule2 (items_of_blob a) (items_of_blob b)) (closest_of (items_of_blob a) (items_of_blob b)) ≡ None) ↔ NoItem a b
       go true = none_exactly_by_2 (items_of_blob a) (items_of_blob b)
       go false = none_exactly (items_of_blob a) (items_of_blob b)
 
   -- a value that is none exactly where the pair is, in an accepted call
-  none_of : (value : Option Witness → Value) → ((p : Option Witness) → (answering (value p) ≡ answering nothing) ↔ (p ≡ none)) → (first : Option Refusal) → first ≡ none → (memory : Workspaces) (output lent : List ℕ) → ((unless first (outcome (answering (value (closest_pair rule a b))) memory output) w lent).report ≡ answering nothing) ↔ NoItem a b
+  none_of : (value : Option Witness → Value) → ((p : Option Witness) → (answering (value p) ≡ answering nothing) ↔ (p ≡ None)) → (first : Option Refusal) → first ≡ None → (memory : Workspaces) (output lent : List ℕ) → ((unless first (outcome (answering (value (closest_pair rule a b))) memory output) w lent).report ≡ answering nothing) ↔ NoItem a b
   none_of value exactly first e memory output lent =
       let same = accepted_report first e (outcome (answering (value (closest_pair rule a b))) memory output) w lent in
       let v = exactly (closest_pair rule a b) in
       (λ n. no_pair_exactly.0 (v.0 (sym same ∙ n)), λ h. same ∙ v.1 (no_pair_exactly.1 h))
 
-  pub distance_none_exactly : first_of (rule_checks rule ++ lent_checks a b w) ≡ none → ((distance a b rule w).report ≡ answering nothing) ↔ NoItem a b
+  pub distance_none_exactly : first_of (rule_checks rule ++ lent_checks a b w) ≡ None → ((distance a b rule w).report ≡ answering nothing) ↔ NoItem a b
   unfolding distance
   distance_none_exactly e = none_of distance_value no_distance_exactly _ e _ _ _
 
-  pub closest_point_none_exactly : (lent : List ℕ) → first_of (rule_checks rule ++ (lent_checks a b w ++ output_checks point_bytes lent)) ≡ none → ((closest_point a b rule w lent).report ≡ answering nothing) ↔ NoItem a b
+  pub closest_point_none_exactly : (lent : List ℕ) → first_of (rule_checks rule ++ (lent_checks a b w ++ output_checks point_bytes lent)) ≡ None → ((closest_point a b rule w lent).report ≡ answering nothing) ↔ NoItem a b
   unfolding closest_point
   closest_point_none_exactly lent e = none_of blob_value nothing_exactly _ e _ _ _
 
-  pub shortest_line_none_exactly : (lent : List ℕ) → first_of (rule_checks rule ++ line_checks a b w lent) ≡ none → ((shortest_line a b rule w lent).report ≡ answering nothing) ↔ NoItem a b
+  pub shortest_line_none_exactly : (lent : List ℕ) → first_of (rule_checks rule ++ line_checks a b w lent) ≡ None → ((shortest_line a b rule w lent).report ≡ answering nothing) ↔ NoItem a b
   unfolding shortest_line
   shortest_line_none_exactly lent e = none_of blob_value nothing_exactly _ e _ _ _

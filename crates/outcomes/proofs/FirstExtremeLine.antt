@@ -3,11 +3,12 @@ use mathlib.Core.Path.{◌≡◌, refl}
 use mathlib.Core.Logic.{◌↔◌}
 use mathlib.Core.Bool.{Bool}
 use mathlib.Core.List.{List}
-use mathlib.Core.Option.{Option, none, some}
+use mathlib.Core.Option.{some}
 use Prim.Native.Nat.{ℕ, ◌^◌, ◌<◌}
 use lib.ListN.{get_or, get_elem?, drop}
 use lib.Ieee.{Float, binary64, of_bits, to_bits}
 use lib.Ieee.Bits.{of_bits-fits, to_bits-of_bits}
+use Rattle.std.specs.Prelude.{Option, None, Some}
 use Rattle.refusals.specs.declared.Refusal.{Refusal}
 use Rattle.gpb.specs.Header.{srid_of}
 use Rattle.gpb.proofs.Bounds.{srid_fits}
@@ -54,8 +55,8 @@ same_bits c p n =
     }
 
 -- the line of a pair that counts reads back as the pair
-pub pair_reads_back : (srid : ℕ) (p : Pair Coordinate) (output : List ℕ) → srid < 2 ^ 32 → Sides Patterns p → HasDistance (distance_of point_of) p → ReadsBack (line_after srid (some (measured point_of p)) output) p
-unfolding line_after between_of witness_of point_of
+pub pair_reads_back : (srid : ℕ) (p : Pair Coordinate) (output : List ℕ) → srid < 2 ^ 32 → Sides Patterns p → HasDistance (distance_of point_of) p → ReadsBack (line_after srid (Some (measured point_of p)) output) p
+unfolding between_of witness_of point_of
 pair_reads_back srid p output small fit c =
     let n = counts_no_nan point_of p c in
     let r = taken_line_reads_back srid (of_bits binary64 p.left.x) (of_bits binary64 p.left.y) (of_bits binary64 p.left.z) (of_bits binary64 p.right.x) (of_bits binary64 p.right.y) (of_bits binary64 p.right.z) small
@@ -74,10 +75,9 @@ pair_reads_back srid p output small fit c =
 
 -- ---- what is reported
 
-pub nothing_exactly : (answer : Option Witness) → (answering (blob_value answer) ≡ answering nothing) ↔ (answer ≡ none)
-unfolding blob_value
-nothing_exactly none = (λ e. refl, λ e. refl)
-nothing_exactly (some w) = (λ e. cc, λ e. cc)
+pub nothing_exactly : (answer : Option Witness) → (answering (blob_value answer) ≡ answering nothing) ↔ (answer ≡ None)
+nothing_exactly None = (λ e. refl, λ e. refl)
+nothing_exactly (Some w) = (λ e. cc, λ e. cc)
 
 -- ---- vertices of bytes
 
@@ -93,19 +93,17 @@ vertices_patterns s bytes = at_each Patterns (vertices_of_blob s) (coords-each.e
 -- ---- the line that is written
 
 module _ (a b : List ℕ) (bytes1 : (i : ℕ) → get_or a i 0 < 256) (bytes2 : (i : ℕ) → get_or b i 0 < 256) {order : Float → Float → Bool} (answer : Option Witness)
-    (h : Holds (distance_of point_of) order (vertices_of_blob a) (vertices_of_blob b) (answer ≡ none) (λ p. answer ≡ some (measured point_of p))) (output : List ℕ) where
+    (h : Holds (distance_of point_of) order (vertices_of_blob a) (vertices_of_blob b) (answer ≡ None) (λ p. answer ≡ Some (measured point_of p))) (output : List ℕ) where
   sides : (k : ℕ) (p : Pair Coordinate) → get_elem? (pairs_of (vertices_of_blob a) (vertices_of_blob b)) k ≡ some p → Sides Patterns p
   sides = each_at (Sides Patterns) (pairs_of (vertices_of_blob a) (vertices_of_blob b)) (pairs_sides Patterns (vertices_of_blob a) (vertices_of_blob b) (vertices_patterns a bytes1) (vertices_patterns b bytes2))
 
   -- an answer that is the first extreme pair is written as that pair's line
   pub first_extreme_line : FirstExtremeLine (answering nothing) (answering blob) order a b (answering (blob_value answer)) (line_after (srid_of a) answer output)
-  unfolding blob_value
   first_extreme_line =
       holds_restated (nothing_exactly answer)
       (λ k p at c is. record { is_told = rw is; reads_back = rw is (pair_reads_back (srid_of a) p output (srid_fits a bytes1) (sides k p at) c) }) h
 
   -- and so the outcome of an accepted call has the third property
-  pub accepted_line : (first : Option Refusal) (memory lent : Workspaces) → first ≡ none
+  pub accepted_line : (first : Option Refusal) (memory lent : Workspaces) → first ≡ None
       → (let o = unless first (outcome (answering (blob_value answer)) memory (line_after (srid_of a) answer output)) lent output in FirstExtremeLine (answering nothing) (answering blob) order a b o.report o.output)
-  unfolding unless
   accepted_line first memory lent e = rw e first_extreme_line

@@ -3,13 +3,14 @@ use mathlib.Core.Path.{◌≡◌, ap, ◌∙◌}
 use mathlib.Core.Logic.{◌↔◌}
 use mathlib.Core.Bool.{cond}
 use mathlib.Core.List.{List, [], ◌++◌}
-use mathlib.Core.Option.{Option, none, some, or_else}
+use Rattle.std.specs.Prelude.{Option, None, Some}
+use Rattle.std.specs.Option.{option_or}
 use Prim.Native.Nat.{ℕ}
-use native.Mathlib.Omega.{arith}
 use lib.Dec.{ltb}
 use lib.ListN.{length}
 use lib.Ieee.{Float}
 use Rattle.refusals.specs.Checks.{Check, first_of, FirstCheckAt}
+use Rattle.refusals.specs.declared.Reason.TheVariants.{OutputTooShort}
 use Rattle.refusals.specs.declared.Refusal.{Refusal}
 use Rattle.refusals.proofs.Checks.{given_exactly}
 use Rattle.refusals.proofs.Sides.{first_of_two, first_of_one}
@@ -24,26 +25,25 @@ First cs r = (i : ℕ) × (c : Check Refusal) × FirstCheckAt cs r i c
 
 same_refusal : (t r : Refusal) → refusing t ≡ refusing r → t ≡ r
 same_refusal t r e =
-    let n : t.number ≡ r.number = cc in
-    let s : t.side ≡ r.side = cc in
-    rw (n, s)
+    let reason : t.reason ≡ r.reason = cc in
+    let side : t.side ≡ r.side = cc in
+    rw (reason, side)
 
 -- a refusal is reported exactly where it is given
-pub reported_exactly : (x : Option Refusal) (r : Refusal) (v : Value) (m w : Workspaces) (o l : List ℕ) → ((unless x (outcome (answering v) m o) w l).report ≡ refusing r) ↔ (x ≡ some r)
-unfolding unless
+pub reported_exactly : (x : Option Refusal) (r : Refusal) (v : Value) (m w : Workspaces) (o l : List ℕ) → ((unless x (outcome (answering v) m o) w l).report ≡ refusing r) ↔ (x ≡ Some r)
 reported_exactly x r v m w o l = (go x, λ e. rw e)
   where
-    go : (x : Option Refusal) → (unless x (outcome (answering v) m o) w l).report ≡ refusing r → x ≡ some r
-    go none h = let z : ◌≡◌ {A = ℕ} 0 1 = cc in absurd (omega arith)
-    go (some t) h = ap some (same_refusal t r h)
+    go : (x : Option Refusal) → (unless x (outcome (answering v) m o) w l).report ≡ refusing r → x ≡ Some r
+    go None h = cc
+    go (Some t) h = ap Some (same_refusal t r h)
 
 pub exactly : (cs : List (Check Refusal)) (r : Refusal) (v : Value) (m w : Workspaces) (o l : List ℕ) → ((unless (first_of cs) (outcome (answering v) m o) w l).report ≡ refusing r) ↔ First cs r
 exactly cs r v m w o l = let e = reported_exactly (first_of cs) r v m w o l in (λ h. (given_exactly cs r).0 (e.0 h), λ f. e.1 ((given_exactly cs r).1 f))
 
 -- of a line: what refuses the operands comes first; then 16, by the output's length alone
-pub line_refused_by : (a b : List ℕ) (w : Workspaces) (lent : List ℕ) → first_of (line_checks a b w lent) ≡ or_else (first_of (lent_checks a b w)) (cond (ltb (length lent) 65) (some (no_side 16)) none)
+pub line_refused_by : (a b : List ℕ) (w : Workspaces) (lent : List ℕ) → first_of (line_checks a b w lent) ≡ option_or (first_of (lent_checks a b w)) (cond (ltb (length lent) 65) (Some (no_side OutputTooShort)) None)
 unfolding line_checks output_checks
-line_refused_by a b w lent = first_of_two (lent_checks a b w) (output_checks 65 lent) ∙ rw (first_of_one (no_side 16) (ltb (length lent) 65))
+line_refused_by a b w lent = first_of_two (lent_checks a b w) (output_checks 65 lent) ∙ rw (first_of_one (no_side OutputTooShort) (ltb (length lent) 65))
 
 module _ (a b : List ℕ) (w : Workspaces) (r : Refusal) where
   pub max_distance_refused : ((max_distance a b w).report ≡ refusing r) ↔ First (lent_checks a b w) r

@@ -1,11 +1,14 @@
 -- The outcome of each operation for every input: report, workspaces, output (document 01, "What the operations say" and the table; document 02, 3/13: the rule
 -- by which the closest sweep pairs items, 1 or 2).
 -- Undecided is only the payload, sign included, of a NaN in a workspace or in an answered number: the model of floats has one NaN. Definitions only.
-use Rattle.std.specs.Prelude.{ℕ, List, [], ◌∷◌, ◌++◌, map, false, cond, not, ◌||◌, length, drop, ltb, eqb, Float}
-use Rattle.std.proofs.Math.Option.{Option, none, some}
+use Rattle.std.specs.Prelude.{ℕ, List, [], ◌∷◌, ◌++◌, map, false, cond, not, ◌||◌, length, drop, ltb, eqb, Float, Option, None, Some}
 use Rattle.std.specs.Float.Ieee.{lt, le, eq}
 use Rattle.ieee754.specs.MinMax.{positive_zero}
 use Rattle.refusals.specs.Checks.{Check, check, first_of}
+use Rattle.refusals.specs.Table.{sided}
+use Rattle.refusals.specs.declared.Reason.{Reason}
+use Rattle.refusals.specs.declared.Reason.TheVariants.{ToleranceBelowZero, OutputTooShort, UnknownRule}
+use Rattle.refusals.specs.declared.Side.TheVariants.{Neither}
 use Rattle.refusals.specs.declared.Refusal.{Refusal}
 use Rattle.gpb.specs.Header.{srid_of}
 use Rattle.gpb.specs.Written.{point_bytes, line_bytes, point_blob, line_blob}
@@ -17,7 +20,8 @@ use Rattle.coords.specs.Parts.{map_runs, vertices_of}
 use Rattle.blob.specs.Blob.{runs_of_blob}
 use Rattle.operands.specs.Operands.{Workspaces, lent_checks, filled}
 use Rattle.extremes.specs.Farthest.{farthest_of}
-use Rattle.items.specs.Items.{Item, items_of}
+use Rattle.items.specs.Items.{items_of}
+use Rattle.items.specs.declared.Item.{Item}
 use Rattle.items.specs.Closest.{closest_of}
 use Rattle.crossings.specs.Closest.{closest_by_rule2}
 use Rattle.outcomes.specs.Answers.{Value, number, decided, blob, nothing, Report, refusing, answering}
@@ -33,25 +37,25 @@ outcome r w out = record { report = r; memory = w; output = out }
 
 -- ---- refusals of no side
 
-abbrev pub no_side : ℕ → Refusal
-no_side n = record { number = n; side = 0 }
+abbrev pub no_side : Reason → Refusal
+no_side reason = sided Neither reason
 
 -- 1: d < 0
 unfoldable pub tolerance_checks : Float → List (Check Refusal)
-tolerance_checks d = check (no_side 1) (lt d positive_zero) ∷ []
+tolerance_checks d = check (no_side ToleranceBelowZero) (lt d positive_zero) ∷ []
 
 -- 17: a rule number other than 1 or 2, after 1 (document 02, 3/13)
 unfoldable pub rule_checks : ℕ → List (Check Refusal)
-rule_checks rule = check (no_side 17) (not (eqb rule 1 || eqb rule 2)) ∷ []
+rule_checks rule = check (no_side UnknownRule) (not (eqb rule 1 || eqb rule 2)) ∷ []
 
 -- 16: output under so many bytes, even where the answer is none
 unfoldable pub output_checks : ℕ → List ℕ → List (Check Refusal)
-output_checks bytes output = check (no_side 16) (ltb (length output) bytes) ∷ []
+output_checks bytes output = check (no_side OutputTooShort) (ltb (length output) bytes) ∷ []
 
 -- refused: all lent memory unchanged
-unfoldable pub unless : Option Refusal → Outcome → Workspaces → List ℕ → Outcome
-unless (some r) accepted w output = outcome (refusing r) w output
-unless none accepted w output = accepted
+abbrev pub unless : Option Refusal → Outcome → Workspaces → List ℕ → Outcome
+unless (Some r) accepted w output = outcome (refusing r) w output
+unless None accepted w output = accepted
 
 -- ---- the farthest pair of vertices
 
@@ -63,7 +67,7 @@ vertices_of_blob s = vertices_of (runs_of_blob s)
 abbrev pub vertex_points : List ℕ → List Point
 vertex_points s = map point_of (vertices_of_blob s)
 
-unfoldable pub farthest_pair : List ℕ → List ℕ → Option Witness
+abbrev pub farthest_pair : List ℕ → List ℕ → Option Witness
 farthest_pair a b = farthest_of (vertex_points a) (vertex_points b)
 
 -- ---- the closest pair of points, segments and triangles
@@ -76,40 +80,40 @@ items_of_blob s = items_of (map_runs point_of (runs_of_blob s))
 unfoldable pub closest_by_rule : ℕ → List Item → List Item → Option Witness
 closest_by_rule rule ls rs = cond (eqb rule 2) (closest_by_rule2 ls rs) (closest_of ls rs)
 
-unfoldable pub closest_pair : ℕ → List ℕ → List ℕ → Option Witness
+abbrev pub closest_pair : ℕ → List ℕ → List ℕ → Option Witness
 closest_pair rule a b = closest_by_rule rule (items_of_blob a) (items_of_blob b)
 
 -- ---- values
 
 -- the distance, or none
-unfoldable pub distance_value : Option Witness → Value
-distance_value none = nothing
-distance_value (some w) = number w.d
+abbrev pub distance_value : Option Witness → Value
+distance_value None = nothing
+distance_value (Some w) = number w.d
 
 -- distance ≤ d; none gives no
-unfoldable pub within_value : Float → Option Witness → Value
-within_value d none = decided false
-within_value d (some w) = decided (le w.d d)
+abbrev pub within_value : Float → Option Witness → Value
+within_value d None = decided false
+within_value d (Some w) = decided (le w.d d)
 
 -- distance = 0; none gives no
-unfoldable pub touching_value : Option Witness → Value
-touching_value none = decided false
-touching_value (some w) = decided (eq w.d positive_zero)
+abbrev pub touching_value : Option Witness → Value
+touching_value None = decided false
+touching_value (Some w) = decided (eq w.d positive_zero)
 
 -- a blob where there is a pair, or none
-unfoldable pub blob_value : Option Witness → Value
-blob_value none = nothing
-blob_value (some w) = blob
+abbrev pub blob_value : Option Witness → Value
+blob_value None = nothing
+blob_value (Some w) = blob
 
 -- the line in the output's first 65 bytes, rest unchanged; none leaves every byte
-unfoldable pub line_after : ℕ → Option Witness → List ℕ → List ℕ
-line_after srid none output = output
-line_after srid (some w) output = line_blob srid w.ax w.ay w.az w.bx w.by w.bz ++ drop line_bytes output
+abbrev pub line_after : ℕ → Option Witness → List ℕ → List ℕ
+line_after srid None output = output
+line_after srid (Some w) output = line_blob srid w.a.x w.a.y w.a.z w.b.x w.b.y w.b.z ++ drop line_bytes output
 
 -- the first point in the output's first 37 bytes, rest unchanged; none leaves every byte
-unfoldable pub point_after : ℕ → Option Witness → List ℕ → List ℕ
-point_after srid none output = output
-point_after srid (some w) output = point_blob srid w.ax w.ay w.az ++ drop point_bytes output
+abbrev pub point_after : ℕ → Option Witness → List ℕ → List ℕ
+point_after srid None output = output
+point_after srid (Some w) output = point_blob srid w.a.x w.a.y w.a.z ++ drop point_bytes output
 
 -- ---- operations
 

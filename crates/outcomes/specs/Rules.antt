@@ -1,10 +1,11 @@
 -- What a rule changes and what not (document 02, 3/13): when 17 is given, and by which rule the outcomes are those of document 01, which knows no rule.
 -- Definitions only.
-use Rattle.std.specs.Prelude.{ℕ, ◌≡◌, ◌↔◌, false, List, [], ◌++◌, Float}
-use Rattle.std.proofs.Math.Option.{Option}
+use Rattle.std.specs.Prelude.{ℕ, ◌≡◌, ◌↔◌, false, List, [], ◌++◌, Float, Option}
 use Rattle.std.specs.Float.Ieee.{lt}
 use Rattle.ieee754.specs.MinMax.{positive_zero}
 use Rattle.refusals.specs.Checks.{first_of}
+use Rattle.refusals.specs.declared.Reason.TheVariants.{UnknownRule}
+use Rattle.refusals.specs.declared.Side.TheVariants.{Neither}
 use Rattle.gpb.specs.Header.{srid_of}
 use Rattle.gpb.specs.Written.{point_bytes}
 use Rattle.primitives.specs.declared.Witness.{Witness}
@@ -25,11 +26,11 @@ OtherRule rule = (rule ≡ 1 → ⊥) × (rule ≡ 2 → ⊥)
 
 -- 17, of no side, is given exactly for a rule number other than 1 or 2, after 1, whatever the blobs and the memory lent
 pub record RuleRefusedExactly (rule : ℕ) (a b : List ℕ) (w : Workspaces) : Type 0 where
-  pub least_distance : ((distance a b rule w).report ≡ refused 17 0) ↔ OtherRule rule
-  pub is_within : (d : Float) → ((within a b d rule w).report ≡ refused 17 0) ↔ ((lt d positive_zero ≡ false) × OtherRule rule)
-  pub intersection : ((intersects a b rule w).report ≡ refused 17 0) ↔ OtherRule rule
-  pub closest_point : (output : List ℕ) → ((closest_point a b rule w output).report ≡ refused 17 0) ↔ OtherRule rule
-  pub shortest_line : (output : List ℕ) → ((shortest_line a b rule w output).report ≡ refused 17 0) ↔ OtherRule rule
+  pub least_distance : ((distance a b rule w).report ≡ refused UnknownRule Neither) ↔ OtherRule rule
+  pub is_within : (d : Float) → ((within a b d rule w).report ≡ refused UnknownRule Neither) ↔ ((lt d positive_zero ≡ false) × OtherRule rule)
+  pub intersection : ((intersects a b rule w).report ≡ refused UnknownRule Neither) ↔ OtherRule rule
+  pub closest_point : (output : List ℕ) → ((closest_point a b rule w output).report ≡ refused UnknownRule Neither) ↔ OtherRule rule
+  pub shortest_line : (output : List ℕ) → ((shortest_line a b rule w output).report ≡ refused UnknownRule Neither) ↔ OtherRule rule
 
 -- ---- document 01's outcomes
 

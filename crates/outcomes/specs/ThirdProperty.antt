@@ -1,7 +1,6 @@
 -- The third property, over all pairs of vertices (document 01, "Words of the third property"; of the shortest line by either rule of document 02, 3/13).
 -- Definitions only.
-use Rattle.std.specs.Prelude.{ℕ, ◌≡◌, List, [], ◌∷◌, ◌++◌, Bool, take, Float}
-use Rattle.std.proofs.Math.Option.{none}
+use Rattle.std.specs.Prelude.{ℕ, ◌≡◌, List, [], ◌∷◌, ◌++◌, Bool, take, Float, None}
 use Rattle.refusals.specs.Checks.{first_of}
 use Rattle.gpb.specs.Header.{header_checks_3d}
 use Rattle.gpb.specs.Written.{line_bytes}
@@ -23,7 +22,7 @@ pub record SameBits (c d : Coordinate) : Type 0 where
 -- a line reads back as a pair: header and walk accept the output's first 65 bytes and give no run but one line run of
 -- two coordinates, whose x, y, z have the same bits as side 1's vertex, then side 2's
 pub record ReadsBack (output : List ℕ) (p : Pair Coordinate) : Type 0 where
-  pub header : first_of (header_checks_3d (take line_bytes output)) ≡ none
+  pub header : first_of (header_checks_3d (take line_bytes output)) ≡ None
   pub tree : Geometry
   pub end : ℕ
   pub walk : walk_of_blob (take line_bytes output) ≡ ok tree end
@@ -50,9 +49,9 @@ module _ {R : Type 0} (no_line a_line : R) where
 
   -- of an accepted longest-line call: `before` is the output lent to it, `output` the one after
   pub record LongestOfAll (a b : List ℕ) (w : Workspaces) (before : List ℕ) (told : R) (output : List ℕ) : Type 0 where
-    pub first_extreme_line : first_of (line_checks a b w before) ≡ none → FirstExtremeLine at_most a b told output
+    pub first_extreme_line : first_of (line_checks a b w before) ≡ None → FirstExtremeLine at_most a b told output
 
   -- of an accepted shortest-line call, by rule 1 or 2, whose two blobs hold point runs only
   pub record ShortestOfPoints (a b : List ℕ) (rule : ℕ) (w : Workspaces) (before : List ℕ) (told : R) (output : List ℕ) : Type 0 where
-    pub first_extreme_line : first_of (rule_checks rule ++ line_checks a b w before) ≡ none → PointRunsOnly (runs_of_blob a) → PointRunsOnly (runs_of_blob b)
+    pub first_extreme_line : first_of (rule_checks rule ++ line_checks a b w before) ≡ None → PointRunsOnly (runs_of_blob a) → PointRunsOnly (runs_of_blob b)
         → FirstExtremeLine at_least a b told output

@@ -7,15 +7,15 @@ ghost use Rattle.std.specs.Prelude.{◌≡◌, length};
 ghost use Rattle.std.specs.Float.Ieee.{le, eq};
 ghost use Rattle.ieee754.specs.MinMax.{positive_zero};
 ghost use Rattle.gpb.specs.Written.{point_bytes, line_bytes};
-ghost use Rattle.outcomes.specs.Answers.{decision_report, written_report};
-ghost use Rattle.outcomes.specs.Operations.{line_after, point_after};
-ghost use Rattle.outcomes.specs.Inner.{swept_of, swept_answer, decided_report, SweptWritten, HasRoom};
+ghost use Rattle.outcomes.specs.Answers.{decision_report, written_value};
+ghost use Rattle.outcomes.specs.Operations.{blob_value, line_after, point_after};
+ghost use Rattle.outcomes.specs.Inner.{answer_of_swept, decided_report, pair_of, swept_of, swept_output, HasRoom};
 
-use extremes::ExtremePair;
 use primitives::Witness;
 use refusals::Refusal;
 
-// A number (may be NaN), none, or a refusal.
+// A number (may be NaN), none, or a refusal: the scope names these three cases, which each operation takes apart, so
+// this is no Result.
 #[derive(Clone, Copy)]
 pub enum Answer {
     Measured(f64),
@@ -23,102 +23,95 @@ pub enum Answer {
     Refused(Refusal),
 }
 
-// Yes, no, or a refusal.
-#[derive(Clone, Copy)]
-pub enum Decision {
-    Yes,
-    No,
-    Refused(Refusal),
-}
+// Yes or no, or a refusal.
+pub type Decision = Result<bool, Refusal>;
 
-// A blob in the output, none, or a refusal.
-#[derive(Clone, Copy)]
+// What an accepted operation that writes a blob left in the output.
+#[derive(Clone, Copy, PartialEq, Eq, Debug)]
 pub enum Written {
     Blob,
     Nothing,
-    Refused(Refusal),
 }
 
-// The pair that a sweep over both blobs found, with the SRID of side 1; none; or a refusal.
+// The same, or a refusal.
+pub type WrittenBlob = Result<Written, Refusal>;
+
+// The pair that a sweep over both blobs found, with the SRID of side 1.
 #[derive(Clone, Copy)]
-pub enum Swept {
-    Found { witness: Witness, srid: u32 },
-    Nothing,
-    Refused(Refusal),
+pub struct Swept {
+    pub witness: Witness,
+    pub srid: u32,
 }
 
 // What a sweep found, with the SRID of side 1.
-pub fn with_srid(found: ExtremePair, srid: u32) -> Swept
-    ensures { result ≡ swept_of found srid }
+pub fn with_srid(found: Option<Witness>, srid: u32) -> Option<Swept>
+    ensures { result ≡ swept_of srid found }
 {
-    match found {
-        ExtremePair::Nothing => Swept::Nothing,
-        ExtremePair::Found(witness) => Swept::Found { witness, srid },
-    }
+    found.map(|witness| Swept { witness, srid })
 }
 
 // The distance of the pair, or none.
-pub fn measured(pair: Swept) -> Answer
-    ensures { result ≡ swept_answer pair }
-{
-    match pair {
-        Swept::Refused(refusal) => Answer::Refused(refusal),
-        Swept::Nothing => Answer::Nothing,
-        Swept::Found { witness, srid: _ } => Answer::Measured(witness.d),
+impl From<Result<Option<Swept>, Refusal>> for Answer {
+    ghost from_gives = { λ pair answer. answer ≡ answer_of_swept pair };
+
+    fn from(pair: Result<Option<Swept>, Refusal>) -> Answer {
+        match pair {
+            Ok(Some(swept)) => Answer::Measured(swept.witness.d),
+            Ok(None) => Answer::Nothing,
+            Err(refusal) => Answer::Refused(refusal),
+        }
     }
 }
 
-// Whether an answered distance is at most d; no where there is none.
-pub fn within(answer: Answer, d: f64) -> Decision
-    ensures { decision_report result ≡ decided_report (λ m. le m d) answer }
-{
-    match answer {
-        Answer::Refused(refusal) => Decision::Refused(refusal),
-        Answer::Nothing => Decision::No, // no distance: not within
-        Answer::Measured(m) => if m <= d { Decision::Yes } else { Decision::No },
+impl Answer {
+    // Whether the distance is at most d; no where there is none.
+    pub fn within(self, d: f64) -> Decision
+        ensures { decision_report result ≡ decided_report (λ m. le m d) self }
+    {
+        match self {
+            Answer::Measured(m) => Ok(m <= d),
+            Answer::Nothing => Ok(false), // no distance: not within
+            Answer::Refused(refusal) => Err(refusal),
+        }
     }
-}
 
-// Whether an answered distance is 0; no where there is none.
-pub fn touching(answer: Answer) -> Decision
-    ensures { decision_report result ≡ decided_report (λ m. eq m positive_zero) answer }
-{
-    match answer {
-        Answer::Refused(refusal) => Decision::Refused(refusal),
-        Answer::Nothing => Decision::No, // no distance: not touching
-        Answer::Measured(m) => if m == 0.0 {
-            Decision::Yes
-        } else {
-            Decision::No
-        },
+    // Whether the distance is 0; no where there is none.
+    pub fn touching(self) -> Decision
+        ensures { decision_report result ≡ decided_report (λ m. eq m positive_zero) self }
+    {
+        match self {
+            Answer::Measured(m) => Ok(m == 0.0),
+            Answer::Nothing => Ok(false), // no distance: not touching
+            Answer::Refused(refusal) => Err(refusal),
+        }
     }
 }
 
 // The line of the pair, from side 1's point to side 2's.
-pub fn write_line(pair: Swept, output: &mut [u8]) -> Written
+pub fn write_line(pair: Option<Swept>, output: &mut [u8]) -> Written
     requires { HasRoom line_bytes (length output.old) pair }
-    ensures { SweptWritten line_after pair output.old output.new (written_report result) }
+    ensures told { written_value result ≡ blob_value (pair_of pair) }
+    ensures left { output.new ≡ swept_output line_after pair output.old }
 {
     match pair {
-        Swept::Refused(refusal) => Written::Refused(refusal),
-        Swept::Nothing => Written::Nothing, // no pair: no line
-        Swept::Found { witness: w, srid } => {
-            gpb::write_line(output, srid, w.ax, w.ay, w.az, w.bx, w.by, w.bz);
+        None => Written::Nothing, // no pair: no line
+        Some(Swept { witness, srid }) => {
+            gpb::write_line(output, srid, witness.a, witness.b);
             Written::Blob
         }
     }
 }
 
 // Side 1's point of the pair.
-pub fn write_point(pair: Swept, output: &mut [u8]) -> Written
+pub fn write_point(pair: Option<Swept>, output: &mut [u8]) -> Written
     requires { HasRoom point_bytes (length output.old) pair }
-    ensures { SweptWritten point_after pair output.old output.new (written_report result) }
+    ensures told { written_value result ≡ blob_value (pair_of pair) }
+    ensures left { output.new ≡ swept_output point_after pair output.old }
 {
     match pair {
-        Swept::Refused(refusal) => Written::Refused(refusal),
-        Swept::Nothing => Written::Nothing, // no pair: no point
-        Swept::Found { witness: w, srid } => {
-            gpb::write_point(output, srid, w.ax, w.ay, w.az);
+        None => Written::Nothing, // no pair: no point
+        Some(Swept { witness, srid }) => {
+            gpb::write_point(output, srid, witness.a);
             Written::Blob
         }
     }

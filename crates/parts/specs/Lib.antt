@@ -1,3 +1,4 @@
 pub mod Points
 pub mod Stored
+pub mod Slices
 pub mod Classes

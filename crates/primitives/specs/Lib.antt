@@ -1,3 +1,4 @@
 pub mod Vectors
 pub mod Witnesses
+pub mod Unrooted
 pub mod Boxes

@@ -2,6 +2,7 @@
 use Rattle.std.specs.Prelude.{Float}
 use Rattle.std.specs.Float.{binary64}
 use Rattle.std.specs.Float.Ieee.{add, sub, mul}
+use Rattle.ieee754.specs.MinMax.{minimum_of, maximum_of}
 use Rattle.ieee754.specs.Root.{root_of}
 use Rattle.primitives.specs.declared.Point.{Point}
 
@@ -51,3 +52,11 @@ norm_of v = root_of (dot_of v v)
 -- differences, squares, sum left to right (document 01, Witness and boxes)
 unfoldable pub squared_distance : Point → Point → Float
 squared_distance a b = dot_of (difference_of a b) (difference_of a b)
+
+-- the lesser ordinate on each axis
+abbrev pub least_of : Point → Point → Point
+least_of a b = record { x = minimum_of a.x b.x; y = minimum_of a.y b.y; z = minimum_of a.z b.z }
+
+-- the greater ordinate on each axis
+abbrev pub greatest_of : Point → Point → Point
+greatest_of a b = record { x = maximum_of a.x b.x; y = maximum_of a.y b.y; z = maximum_of a.z b.z }

@@ -8,7 +8,7 @@ use Rattle.primitives.specs.Vectors.{squared_distance}
 
 -- a distance d with the points a and b
 unfoldable pub witness_of : Float → Point → Point → Witness
-witness_of d a b = record { d = d; ax = a.x; ay = a.y; az = a.z; bx = b.x; by = b.y; bz = b.z }
+witness_of d a b = record { d = d; a = a; b = b }
 
 -- the witness of a and b, with their distance: differences, squares, sum left to right, root
 unfoldable pub between_of : Point → Point → Witness
@@ -30,14 +30,6 @@ better_of beats w other = cond (beats w.d other.d) other w
 unfoldable pub smaller_of : Witness → Witness → Witness
 smaller_of w other = better_of shorter w other
 
--- the point on the first side
-unfoldable pub first_point : Witness → Point
-first_point w = record { x = w.ax; y = w.ay; z = w.az }
-
--- the point on the second side
-unfoldable pub second_point : Witness → Point
-second_point w = record { x = w.bx; y = w.by; z = w.bz }
-
 -- the same distance, its points exchanged
 unfoldable pub flipped_of : Witness → Witness
-flipped_of w = witness_of w.d (second_point w) (first_point w)
+flipped_of w = witness_of w.d w.b w.a

@@ -2,9 +2,13 @@
 #![tactic(auto)]
 
 ghost use Rattle.std.specs.Prelude.{◌≡◌};
-ghost use Rattle.primitives.specs.Vectors.{difference_of, dot_of, cross_of, interpolated_of, norm_of, squared_distance};
+ghost use Rattle.primitives.specs.declared.Witness.{Witness};
+ghost use Rattle.primitives.specs.Vectors.{difference_of, dot_of, cross_of, interpolated_of, norm_of, squared_distance, least_of, greatest_of};
 ghost use Rattle.primitives.specs.Witnesses.{between_of, smaller_of, flipped_of};
-ghost use Rattle.primitives.specs.Boxes.{box_of_point, add_point, least_corner, greatest_corner, union_of, squared, least_gap, greatest_gap, least_squared_gap, greatest_squared_gap};
+ghost use Rattle.primitives.specs.Unrooted.{rooted_of, StandsFor};
+ghost use Rattle.primitives.specs.Boxes.{box_of_point, add_point, union_of, squared, least_gap, greatest_gap, least_squared_gap, greatest_squared_gap};
+
+use std::ops::Sub;
 
 // A point, or a vector.
 #[derive(Clone, Copy)]
@@ -14,88 +18,115 @@ pub struct Point {
     pub z: f64,
 }
 
-// a - b
-pub fn difference(a: Point, b: Point) -> Point
-    ensures { result ≡ difference_of a b }
-{
-    Point {
-        x: a.x - b.x,
-        y: a.y - b.y,
-        z: a.z - b.z,
+impl Sub for Point {
+    type Output = Point;
+
+    ghost sub_gives = { λ a b r. r ≡ difference_of a b };
+
+    #[tactic(auto, unfolding(crate::specs::Vectors::difference_of))]
+    fn sub(self, other: Point) -> Point {
+        Point {
+            x: self.x - other.x,
+            y: self.y - other.y,
+            z: self.z - other.z,
+        }
     }
 }
 
-pub fn dot(a: Point, b: Point) -> f64
-    ensures { result ≡ dot_of a b }
-{
-    a.x * b.x + a.y * b.y + a.z * b.z
-}
-
-pub fn cross(a: Point, b: Point) -> Point
-    ensures { result ≡ cross_of a b }
-{
-    Point {
-        x: a.y * b.z - a.z * b.y,
-        y: a.z * b.x - a.x * b.z,
-        z: a.x * b.y - a.y * b.x,
+impl Point {
+    #[tactic(auto, unfolding(crate::specs::Vectors::dot_of))]
+    pub fn dot(self, other: Point) -> f64
+        ensures { result ≡ dot_of self other }
+    {
+        self.x * other.x + self.y * other.y + self.z * other.z
     }
-}
 
-// a + t * (b - a)
-pub fn interpolated(a: Point, b: Point, t: f64) -> Point
-    ensures { result ≡ interpolated_of a b t }
-{
-    Point {
-        x: a.x + t * (b.x - a.x),
-        y: a.y + t * (b.y - a.y),
-        z: a.z + t * (b.z - a.z),
+    #[tactic(auto, unfolding(crate::specs::Vectors::cross_of))]
+    pub fn cross(self, other: Point) -> Point
+        ensures { result ≡ cross_of self other }
+    {
+        Point {
+            x: self.y * other.z - self.z * other.y,
+            y: self.z * other.x - self.x * other.z,
+            z: self.x * other.y - self.y * other.x,
+        }
     }
-}
 
-// The length of a vector.
-pub fn norm(v: Point) -> f64
-    ensures { result ≡ norm_of v }
-{
-    ieee754::root(dot(v, v))
-}
+    // self + t * (other - self)
+    #[tactic(auto, unfolding(crate::specs::Vectors::interpolated_of))]
+    pub fn interpolated(self, other: Point, t: f64) -> Point
+        ensures { result ≡ interpolated_of self other t }
+    {
+        Point {
+            x: self.x + t * (other.x - self.x),
+            y: self.y + t * (other.y - self.y),
+            z: self.z + t * (other.z - self.z),
+        }
+    }
 
-// The squared distance of two points.
-pub fn dist_sq(a: Point, b: Point) -> f64
-    ensures { result ≡ squared_distance a b }
-{
-    let v = difference(a, b);
-    dot(v, v)
+    // The length of a vector.
+    #[tactic(auto, unfolding(crate::specs::Vectors::norm_of))]
+    pub fn norm(self) -> f64
+        ensures { result ≡ norm_of self }
+    {
+        ieee754::root(self.dot(self))
+    }
+
+    // The squared distance of two points.
+    #[tactic(auto, unfolding(crate::specs::Vectors::squared_distance))]
+    pub fn dist_sq(self, other: Point) -> f64
+        ensures { result ≡ squared_distance self other }
+    {
+        let v = self - other;
+        v.dot(v)
+    }
+
+    // The lesser ordinate on each axis.
+    pub fn min(self, other: Point) -> Point
+        ensures { result ≡ least_of self other }
+    {
+        Point {
+            x: ieee754::minimum(self.x, other.x),
+            y: ieee754::minimum(self.y, other.y),
+            z: ieee754::minimum(self.z, other.z),
+        }
+    }
+
+    // The greater ordinate on each axis.
+    pub fn max(self, other: Point) -> Point
+        ensures { result ≡ greatest_of self other }
+    {
+        Point {
+            x: ieee754::maximum(self.x, other.x),
+            y: ieee754::maximum(self.y, other.y),
+            z: ieee754::maximum(self.z, other.z),
+        }
+    }
 }
 
 // A distance with its two points.
 #[derive(Clone, Copy)]
 pub struct Witness {
     pub d: f64,
-    pub ax: f64,
-    pub ay: f64,
-    pub az: f64,
-    pub bx: f64,
-    pub by: f64,
-    pub bz: f64,
+    pub a: Point,
+    pub b: Point,
 }
 
 impl Witness {
     // The distance of two points.
+    #[tactic(auto, unfolding(crate::specs::Witnesses::between_of, crate::specs::Witnesses::witness_of))]
     pub fn between(a: Point, b: Point) -> Witness
         ensures { result ≡ between_of a b }
     {
         Witness {
-            d: ieee754::root(dist_sq(a, b)),
-            ax: a.x,
-            ay: a.y,
-            az: a.z,
-            bx: b.x,
-            by: b.y,
-            bz: b.z,
+            d: ieee754::root(a.dist_sq(b)),
+            a,
+            b,
         }
     }
 
     // The smaller of two: the second only if strictly less.
+    #[tactic(auto, unfolding(crate::specs::Witnesses::smaller_of))]
     pub fn min(self, other: Witness) -> Witness
         ensures { result ≡ smaller_of self other }
     {
@@ -103,17 +134,58 @@ impl Witness {
     }
 
     // The same distance, its points exchanged.
+    #[tactic(auto, unfolding(crate::specs::Witnesses::flipped_of, crate::specs::Witnesses::witness_of))]
     pub fn flipped(self) -> Witness
         ensures { result ≡ flipped_of self }
     {
+        let Witness { d, a, b } = self;
+        Witness { d, a: b, b: a }
+    }
+}
+
+// Two points with the sum of squares of their distance: a witness whose root is not taken.
+#[derive(Clone, Copy)]
+pub struct UnrootedWitness {
+    pub sum: f64,
+    pub a: Point,
+    pub b: Point,
+}
+
+impl UnrootedWitness {
+    // Two points.
+    pub fn between(a: Point, b: Point) -> UnrootedWitness
+        ensures { StandsFor result (between_of a b) }
+    {
+        UnrootedWitness {
+            sum: a.dist_sq(b),
+            a,
+            b,
+        }
+    }
+
+    // The same sum, its points exchanged.
+    pub fn flipped(self) -> UnrootedWitness
+        ensures rooted { rooted_of result ≡ flipped_of (rooted_of self) }
+        ensures stands { (w : Witness) → StandsFor self w → StandsFor result (flipped_of w) }
+    {
+        let Witness { d, a, b } = Witness {
+            d: self.sum,
+            a: self.a,
+            b: self.b,
+        }
+        .flipped();
+        UnrootedWitness { sum: d, a, b }
+    }
+
+    // The witness, its root taken.
+    #[tactic(auto, unfolding(crate::specs::Unrooted::rooted_of, crate::specs::Witnesses::witness_of))]
+    pub fn rooted(self) -> Witness
+        ensures { result ≡ rooted_of self }
+    {
         Witness {
-            d: self.d,
-            ax: self.bx,
-            ay: self.by,
-            az: self.bz,
-            bx: self.ax,
-            by: self.ay,
-            bz: self.az,
+            d: ieee754::root(self.sum),
+            a: self.a,
+            b: self.b,
         }
     }
 }
@@ -129,6 +201,7 @@ fn least_gap(lo: f64, hi: f64, other_lo: f64, other_hi: f64) -> f64
 }
 
 // The greatest gap of two ranges on one axis.
+#[tactic(auto, unfolding(crate::specs::Boxes::greatest_gap))]
 fn greatest_gap(lo: f64, hi: f64, other_lo: f64, other_hi: f64) -> f64
     ensures { result ≡ greatest_gap lo hi other_lo other_hi }
 {
@@ -138,90 +211,60 @@ fn greatest_gap(lo: f64, hi: f64, other_lo: f64, other_hi: f64) -> f64
     )
 }
 
-// A box: least and greatest per axis.
+// A box, by its corners of least and of greatest ordinates.
 #[derive(Clone, Copy)]
 pub struct Aabb {
-    pub lo_x: f64,
-    pub lo_y: f64,
-    pub lo_z: f64,
-    pub hi_x: f64,
-    pub hi_y: f64,
-    pub hi_z: f64,
+    pub lo: Point,
+    pub hi: Point,
 }
 
 impl Aabb {
     // The box of one point.
+    #[tactic(auto, unfolding(crate::specs::Boxes::box_of_point))]
     pub fn point(p: Point) -> Aabb
         ensures { result ≡ box_of_point p }
     {
-        Aabb {
-            lo_x: p.x,
-            lo_y: p.y,
-            lo_z: p.z,
-            hi_x: p.x,
-            hi_y: p.y,
-            hi_z: p.z,
-        }
+        Aabb { lo: p, hi: p }
     }
 
     // The box with one more point in it.
+    #[tactic(auto, unfolding(crate::specs::Boxes::add_point))]
     pub fn add(self, p: Point) -> Aabb
         ensures { result ≡ add_point self p }
     {
         Aabb {
-            lo_x: ieee754::minimum(self.lo_x, p.x),
-            lo_y: ieee754::minimum(self.lo_y, p.y),
-            lo_z: ieee754::minimum(self.lo_z, p.z),
-            hi_x: ieee754::maximum(self.hi_x, p.x),
-            hi_y: ieee754::maximum(self.hi_y, p.y),
-            hi_z: ieee754::maximum(self.hi_z, p.z),
-        }
-    }
-
-    fn least_corner(self) -> Point
-        ensures { result ≡ least_corner self }
-    {
-        Point {
-            x: self.lo_x,
-            y: self.lo_y,
-            z: self.lo_z,
-        }
-    }
-
-    fn greatest_corner(self) -> Point
-        ensures { result ≡ greatest_corner self }
-    {
-        Point {
-            x: self.hi_x,
-            y: self.hi_y,
-            z: self.hi_z,
+            lo: self.lo.min(p),
+            hi: self.hi.max(p),
         }
     }
 
     // The box with another's two corners added.
+    #[tactic(auto, unfolding(crate::specs::Boxes::union_of))]
     pub fn union(self, other: Aabb) -> Aabb
         ensures { result ≡ union_of self other }
     {
-        self.add(other.least_corner()).add(other.greatest_corner())
+        self.add(other.lo).add(other.hi)
     }
 
     // The squared distance that no pair of points, one from each box, goes below.
+    #[tactic(auto, unfolding(crate::specs::Boxes::least_squared_gap))]
     pub fn min_dist_sq(self, other: Aabb) -> f64
         ensures { result ≡ least_squared_gap self other }
     {
-        let x = least_gap(self.lo_x, self.hi_x, other.lo_x, other.hi_x);
-        let y = least_gap(self.lo_y, self.hi_y, other.lo_y, other.hi_y);
-        let z = least_gap(self.lo_z, self.hi_z, other.lo_z, other.hi_z);
+        let x = least_gap(self.lo.x, self.hi.x, other.lo.x, other.hi.x);
+        let y = least_gap(self.lo.y, self.hi.y, other.lo.y, other.hi.y);
+        let z = least_gap(self.lo.z, self.hi.z, other.lo.z, other.hi.z);
         x * x + y * y + z * z
     }
 
     // The squared distance that no such pair exceeds.
+    #[tactic(auto, unfolding(crate::specs::Boxes::greatest_squared_gap))]
     pub fn max_dist_sq(self, other: Aabb) -> f64
         ensures { result ≡ greatest_squared_gap self other }
     {
-        let x = greatest_gap(self.lo_x, self.hi_x, other.lo_x, other.hi_x);
-        let y = greatest_gap(self.lo_y, self.hi_y, other.lo_y, other.hi_y);
-        let z = greatest_gap(self.lo_z, self.hi_z, other.lo_z, other.hi_z);
+        let x = greatest_gap(self.lo.x, self.hi.x, other.lo.x, other.hi.x);
+        let y = greatest_gap(self.lo.y, self.hi.y, other.lo.y, other.hi.y);
+        let z = greatest_gap(self.lo.z, self.hi.z, other.lo.z, other.hi.z);
         x * x + y * y + z * z
     }
 }

@@ -4,9 +4,10 @@ use mathlib.Core.Path.{◌≡◌, ap, ◌∙◌}
 use mathlib.Core.List.{List}
 use Rattle.operands.specs.Operands.{Workspaces}
 use Rattle.dig_matcher.specs.Job.{HitLists, JobOutcome}
-use Rattle.dig_matcher.specs.declared.JobAnswer.{JobAnswer}
-use Rattle.replies.specs.Replies.{job_reply, JobReturned}
+use Rattle.std.specs.Prelude.{Result}
+use Rattle.refusals.specs.declared.Refusal.{Refusal}
+use Rattle.replies.specs.Replies.{size_reply, JobReturned}
 use Rattle.replies.specs.declared.PairReply.{PairReply}
 
-pub as_job : (tape : List ℕ) (w : Workspaces) (before after : HitLists) (o : JobAnswer) (r : PairReply) → JobOutcome tape w before after o → r ≡ job_reply o → JobReturned tape w before after r
-as_job tape w before after o r h e = record { answer = e ∙ ap job_reply h.answer; list = h.list }
+pub as_job : (tape : List ℕ) (w : Workspaces) (before after : HitLists) (o : Result ℕ Refusal) (r : PairReply) → JobOutcome tape w before after o → r ≡ size_reply o → JobReturned tape w before after r
+as_job tape w before after o r h e = record { answer = e ∙ ap size_reply h.answer; list = h.list }

@@ -1,28 +1,32 @@
 -- What C reads of an answer: a case, the table's number and side, and a value (document 01, "What the operations say"; the cases are this interface's). Definitions only.
-use Rattle.std.specs.Prelude.{ℕ, ◌*◌, ◌≡◌, cond, List, length, Float}
-use Rattle.std.proofs.Math.Option.{Option}
+use Rattle.std.specs.Prelude.{ℕ, ◌*◌, ◌≡◌, cond, List, length, Float, Option, Some, None, Result, Ok, Err}
 use Rattle.ieee754.specs.MinMax.{positive_zero}
-use Rattle.refusals.specs.Checks.{first_of}
+use Rattle.refusals.specs.Checks.{first_of, refused_or}
+use Rattle.refusals.specs.Table.{number_of, number_of_side}
 use Rattle.refusals.specs.declared.Refusal.{Refusal}
 use Rattle.workspace.specs.Workspace.{floats_per_coordinate, numbers_per_run}
-use Rattle.blob.specs.Blob.{blob_checks, answer_by, floats_by, table_by}
+use Rattle.blob.specs.Blob.{blob_checks, answer_of, floats_by, table_by}
 use Rattle.blob.specs.declared.BlobRead.{BlobRead}
-use Rattle.blob.specs.declared.BlobRead.TheVariants as blob-read
-use Rattle.blob.specs.declared.Sizes.{Sizes}
-use Rattle.blob.specs.declared.Sizes.TheVariants as sizes
-use Rattle.blob.specs.declared.WrittenSize.{WrittenSize}
-use Rattle.blob.specs.declared.WrittenSize.TheVariants as written-size
-use Rattle.blob.specs.Written.{size_by, output_by}
+use Rattle.blob.specs.declared.Lent.{Lent}
+use Rattle.blob.specs.Written.{output_by}
 use Rattle.operands.specs.Operands.{Workspaces, workspaces}
 use Rattle.surface.specs.Patches.{Patch}
-use Rattle.surface.specs.Patches as patch
+use Rattle.surface.specs.declared.PatchError.{PatchError}
+use Rattle.surface.specs.declared.PatchError.TheVariants as error
 use Rattle.outcomes.specs.Answers.{Value, number, decided, blob, nothing, Report, answering, refused}
 use Rattle.outcomes.specs.Operations.{Outcome}
 use Rattle.dig_matcher.specs.Job.{HitLists, places_in, job_of, answer_of_job, ListedBy}
-use Rattle.dig_matcher.specs.declared.JobAnswer.{JobAnswer}
-use Rattle.dig_matcher.specs.declared.JobAnswer.TheVariants as job-answer
+use Rattle.replies.specs.declared.Case.{Case}
+use Rattle.replies.specs.declared.Case.TheVariants as case
 use Rattle.replies.specs.declared.Reply.{Reply}
 use Rattle.replies.specs.declared.PairReply.{PairReply}
+
+-- the numbers of the cases
+abbrev pub case_number : Case → ℕ
+case_number case.Nothing = 0
+case_number case.Answered = 1
+case_number case.Refused = 2
+case_number case.NoSurface = 3
 
 -- ---- a number, a decision or a blob
 
@@ -38,17 +42,21 @@ reply_answered d = record { case = 1; number = 0; side = 0; value = d }
 abbrev pub reply_refused : ℕ → ℕ → Reply
 reply_refused n side = record { case = 2; number = n; side = side; value = positive_zero }
 
+-- the same of a refusal
+abbrev pub reply_refusal : Refusal → Reply
+reply_refusal r = reply_refused (number_of r.reason) (number_of_side r.side)
+
 -- the reply to what is answered
-unfoldable pub reply_of_value : Value → Reply
+abbrev pub reply_of_value : Value → Reply
 reply_of_value (number d) = reply_answered d
 reply_of_value (decided b) = cond b (reply_answered positive_zero) reply_nothing
 reply_of_value blob = reply_answered positive_zero
 reply_of_value nothing = reply_nothing
 
 -- the reply to a report: document 01's number and side of a refusal, or the value
-unfoldable pub reply_of : Report → Reply
+abbrev pub reply_of : Report → Reply
 reply_of (answering v) = reply_of_value v
-reply_of (refused n side) = reply_refused n side
+reply_of (refused reason side) = reply_refused (number_of reason) (number_of_side side)
 
 -- what a call returns and leaves: a reply, both workspaces, the output
 pub record Returned : Type 0 where
@@ -73,24 +81,32 @@ pair_of case first second = record { case = case; number = 0; side = 0; first = 
 abbrev pub pair_refused : ℕ → ℕ → PairReply
 pair_refused n side = record { case = 2; number = n; side = side; first = 0; second = 0 }
 
--- the lengths to lend for a blob: floats, then numbers
-unfoldable pub sizes_reply : Sizes → PairReply
-sizes_reply (sizes.Lend floats numbers) = pair_of 1 floats numbers
-sizes_reply (sizes.Refused r) = pair_refused r.number r.side
+-- the same of a refusal
+abbrev pub pair_refusal : Refusal → PairReply
+pair_refusal r = pair_refused (number_of r.reason) (number_of_side r.side)
 
--- where a patch starts and ends in its blob; case 0: there is no such patch, case 3: the blob is no surface
-unfoldable pub patch_reply : Patch → PairReply
-patch_reply (patch.part start end) = pair_of 1 start end
-patch_reply patch.nothing = pair_of 0 0 0
-patch_reply patch.no_surface = pair_of 3 0 0
-patch_reply (patch.refusing n side) = pair_refused n side
+-- the lengths to lend for a blob: floats, then numbers
+abbrev pub sizes_reply : Result Lent Refusal → PairReply
+sizes_reply (Ok lent) = pair_of 1 lent.floats lent.numbers
+sizes_reply (Err r) = pair_refusal r
+
+-- case 3: the blob is no surface
+abbrev pub error_reply : PatchError → PairReply
+error_reply error.NoSurface = pair_of 3 0 0
+error_reply (error.Refused r) = pair_refusal r
+
+-- where a patch starts and ends in its blob; case 0: there is no such patch
+abbrev pub patch_reply : Patch → PairReply
+patch_reply (Ok (Some p)) = pair_of 1 p.start p.end
+patch_reply (Ok None) = pair_of 0 0 0
+patch_reply (Err e) = error_reply e
 
 -- ---- a blob read
 
 -- the floats and numbers filled: 4N, then 2R
-unfoldable pub read_reply : BlobRead → PairReply
-read_reply (blob-read.Read coords runs srid) = pair_of 1 (floats_per_coordinate * coords) (numbers_per_run * runs)
-read_reply (blob-read.Refused r) = pair_refused r.number r.side
+abbrev pub read_reply : Result BlobRead Refusal → PairReply
+read_reply (Ok read) = pair_of 1 (floats_per_coordinate * read.coords) (numbers_per_run * read.runs)
+read_reply (Err r) = pair_refusal r
 
 -- what a call that reads a blob returns and leaves: a reply, and side 1's workspace
 pub record ReturnedPair : Type 0 where
@@ -100,13 +116,11 @@ pub record ReturnedPair : Type 0 where
 abbrev pub returned_pair : PairReply → Workspaces → ReturnedPair
 returned_pair r w = record { reply = r; memory = w }
 
--- by the first check that holds: a refusal, with all lent memory unchanged, or the workspace filled
-unfoldable pub read_by : Option ℕ → List ℕ → Workspaces → ReturnedPair
-read_by first s w =
-    returned_pair (read_reply (answer_by first s)) (workspaces (floats_by first s w.floats1) (table_by first s w.table1) w.floats2 w.table2)
-
+-- a refusal, with all lent memory unchanged, or the workspace filled
 unfoldable pub read_returned : List ℕ → Workspaces → ReturnedPair
-read_returned s w = read_by (first_of (blob_checks s (length w.floats1) (length w.table1))) s w
+read_returned s w =
+    let first = first_of (blob_checks s (length w.floats1) (length w.table1)) in
+    returned_pair (read_reply (answer_of s (length w.floats1) (length w.table1))) (workspaces (floats_by first s w.floats1) (table_by first s w.table1) w.floats2 w.table2)
 
 -- ---- a blob of any size written
 
@@ -114,9 +128,9 @@ read_returned s w = read_by (first_of (blob_checks s (length w.floats1) (length 
 abbrev pub reply_size : ℕ → PairReply
 reply_size n = pair_of 1 n 0
 
-unfoldable pub size_reply : WrittenSize → PairReply
-size_reply (written-size.Bytes n) = reply_size n
-size_reply (written-size.Refused r) = pair_refused r.number r.side
+abbrev pub size_reply : Result ℕ Refusal → PairReply
+size_reply (Ok n) = reply_size n
+size_reply (Err r) = pair_refusal r
 
 -- what a call that writes a blob returns and leaves: a reply, and the output
 pub record ReturnedSize : Type 0 where
@@ -128,16 +142,11 @@ returned_size r output = record { reply = r; output = output }
 
 -- by the first check that holds: a refusal, with the output unchanged, or the blob's size, and the blob in the output
 unfoldable pub size_returned : Option Refusal → List ℕ → List ℕ → ReturnedSize
-size_returned first written output = returned_size (size_reply (size_by first written)) (output_by first written output)
+size_returned first written output = returned_size (size_reply (refused_or first (length written))) (output_by first written output)
 
 -- ---- a job
 
--- the number of its hits, then 0
-unfoldable pub job_reply : JobAnswer → PairReply
-job_reply (job-answer.Hits n) = pair_of 1 n 0
-job_reply (job-answer.Refused r) = pair_refused r.number r.side
-
--- what a call that runs a job returns and leaves: as the job's own outcome, told by the reply
+-- what a call that runs a job returns and leaves: as the job's own outcome, told by the reply: the number of its hits, then 0
 pub record JobReturned (tape : List ℕ) (w : Workspaces) (before after : HitLists) (r : PairReply) : Type 0 where
-  pub answer : r ≡ job_reply (answer_of_job (job_of tape w (places_in before)))
+  pub answer : r ≡ size_reply (answer_of_job (job_of tape w (places_in before)))
   pub list : ListedBy (job_of tape w (places_in before)) before after

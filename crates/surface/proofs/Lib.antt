@@ -4,6 +4,5 @@ pub mod SurfaceKinds
 pub mod Bounds
 pub mod Refusing
 pub mod Listing
-pub mod Answers
 pub mod Examples
 pub mod WholeWalk

@@ -1,35 +1,34 @@
--- End theorems: the walk as a whole: from a list's start on, each step from the end of the patch before it, the next patch is patch 0, 1, 2 and so on, and none after the last. Assumes nothing.
+-- End theorems: the walk as a whole: from a list's start on, each step from the end of the patch before it, the next patch is patch 0, 1, 2 and so on, and None after the last. Assumes nothing.
+use Rattle.std.specs.Prelude.{None, Some, Ok, Err, slice_get}
+use Rattle.surface.specs.declared.Part.{Part}
 use mathlib.Core.Path.{◌≡◌, refl}
 use mathlib.Core.List.{List, [], ◌∷◌}
 use Prim.Native.Nat.{ℕ, zero, suc, ◌+◌, ◌-◌, ◌<◌, ◌≤◌}
 use native.Mathlib.Nat.{sub-zero}
 use native.Mathlib.Numerals.{add-one}
 use native.Mathlib.Omega.{arith}
-use lib.ListN.{length, drop, get_elem?}
-use Rattle.surface.specs.Patches.{Range, Patch, part, nothing, no_surface, refusing, patch_there, patch_in, patch_of_surface, patch_of, list_of, next_of, Before}
-use Rattle.surface.specs.declared.PatchList.TheVariants as patch-list
+use lib.ListN.{length, drop}
+use Rattle.surface.specs.Patches.{Patch, part, listed, patch_in, patch_of_surface, patch_of, list_of, next_of, Before}
 use Rattle.surface.proofs.Listing.{stands_first, next_is_patch, stands_after}
 
 -- where a part starts, and where it ends
 unfoldable pub part_start : Patch → ℕ
-part_start (part start end) = start
-part_start nothing = 0
-part_start no_surface = 0
-part_start (refusing k side) = 0
+part_start (Ok (Some p)) = p.start
+part_start (Ok None) = 0
+part_start (Err e) = 0
 
 unfoldable pub part_end : Patch → ℕ
-part_end (part start end) = end
-part_end nothing = 0
-part_end no_surface = 0
-part_end (refusing k side) = 0
+part_end (Ok (Some p)) = p.end
+part_end (Ok None) = 0
+part_end (Err e) = 0
 
 -- where a walk over so many patches stands after n of them
 unfoldable pub walked_to : List ℕ → ℕ → ℕ → ℕ → ℕ
 walked_to s first count zero = first
 walked_to s first count (suc n) = part_end (next_of s (walked_to s first count n) (count - n))
 
-there : (rs : List Range) (n : ℕ) → 0 < length (drop n rs) → patch_there (get_elem? rs n) ≡ part (part_start (patch_there (get_elem? rs n))) (part_end (patch_there (get_elem? rs n)))
-unfolding patch_there part_start part_end
+there : (rs : List Part) (n : ℕ) → 0 < length (drop n rs) → Ok (slice_get rs n) ≡ part (part_start (Ok (slice_get rs n))) (part_end (Ok (slice_get rs n)))
+unfolding part_start part_end
 there [] zero h = absurd (omega arith)
 there [] (suc n) h = absurd (omega arith)
 there (r ∷ rs) zero h = refl
@@ -48,7 +47,7 @@ module _ (s : List ℕ) where
       let after : Before s (part_end (patch_of s n)) (count - n - 1) (n + 1) = stands_after s at (count - n) n _ _ b (left_is_part at (count - n) n b (omega arith)) in
       rw (next_is_patch s at (count - n) n b, less) (rw add-one at after)
 
-  module _ (first count : ℕ) (listed : list_of s ≡ patch-list.Listed first count) where
+  module _ (first count : ℕ) (listed : list_of s ≡ listed first count) where
     pub walk_stands : (n : ℕ) → n ≤ count → Before s (walked_to s first count n) (count - n) n
     unfolding walked_to
     walk_stands zero h = rw sub-zero (stands_first s first count listed)

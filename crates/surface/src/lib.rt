@@ -3,256 +3,207 @@
 
 ghost use Rattle.std.specs.Prelude.{◌≡◌, [], ◌∷◌, ℕ, ◌+◌, ◌-◌, length};
 ghost use Rattle.coords.specs.Walk.{header_at, times};
-ghost use Rattle.surface.specs.Patches.{patch_at, patches_from, surface_kind, patch_value, refusing, part};
-ghost use Rattle.surface.specs.Patches.{patch_in, patch_of, bytes_of, list_in, list_of, next_of};
+ghost use Rattle.surface.specs.Patches.{patch_at, patches_from, surface_kind, part, refusal_of};
+ghost use Rattle.surface.specs.Patches.{patch_in, patch_of, bytes_of, listed, list_in, list_of, next_of};
 ghost use Rattle.surface.specs.Cursors.{next_by, patch_by, bytes_by, StandsBefore};
 ghost use Rattle.surface.specs.Inner.{scan_end, count_from};
-ghost use Rattle.surface.specs.declared.PatchRange.TheVariants.{Part};
-ghost use Rattle.surface.specs.declared.PatchList.TheVariants.{Listed};
 
-use coords::{Counts, ParsedHeader};
-use gpb::Header;
-use refusals::Refusal;
+use fields::Kind;
+use refusals::{Reason, Refusal, Side};
 
-// The part of the blob from a start up to an end; none; no surface; or the refusal.
-#[derive(Clone, Copy)]
-pub enum PatchRange {
-    Part { start: usize, end: usize },
-    Nothing,
+// The part of a blob from a start up to an end.
+#[derive(Clone, Copy, PartialEq, Eq, Debug)]
+pub struct Part {
+    pub start: usize,
+    pub end: usize,
+}
+
+// Where the first patch starts and how many there are.
+#[derive(Clone, Copy, PartialEq, Eq, Debug)]
+pub struct PatchList {
+    pub first: usize,
+    pub count: u64,
+}
+
+// Why no patch is told.
+#[derive(Clone, Copy, PartialEq, Eq, Debug)]
+pub enum PatchError {
     NoSurface,
     Refused(Refusal),
 }
 
-// Where the first patch starts and how many there are; no surface; or the refusal.
-#[derive(Clone, Copy)]
-pub enum PatchList {
-    Listed { first: usize, count: u64 },
-    NoSurface,
-    Refused(Refusal),
+// There is one blob: refusals are side 1's.
+impl From<Reason> for PatchError {
+    ghost from_gives = { λ reason error. error ≡ refusal_of reason };
+
+    fn from(reason: Reason) -> PatchError {
+        PatchError::Refused(reason.of(Side::First))
+    }
 }
 
 // A surface by the kind of its geometry, and where the geometry starts.
-#[derive(Clone, Copy)]
-enum SurfaceKind {
+#[derive(Clone, Copy, PartialEq, Eq, Debug)]
+enum Surface {
     Collection(usize),
     Triangle(usize),
-    NoSurface,
 }
 
-// Where scanning ended, or the number of the refusal.
-#[derive(Clone, Copy)]
-enum Scanned {
-    Ends(usize),
-    Refused(u8),
-}
-
-// Where the first patch of a collection starts and how many there are, or the number of the refusal.
-#[derive(Clone, Copy)]
-enum PatchCount {
-    Counted { first: usize, count: u64 },
-    Refused(u8),
-}
-
-// The kind of a blob's surface.
-fn surface_kind(s: &[u8]) -> SurfaceKind
+// The surface of a blob, if it is one.
+#[tactic(auto, using(crate::proofs::SurfaceKinds::is_none), unfolding(crate::specs::Patches::surface_kind, crate::specs::Patches::kind_by_header, crate::specs::Patches::kind_by_number))]
+fn surface_kind(s: &[u8]) -> Option<Surface>
     ensures { result ≡ surface_kind s.now }
 {
-    match gpb::read_header(s) {
-        Header::Refused(k) => SurfaceKind::NoSurface,
-        Header::Found { at, code, srid } => {
-            let kind = fields::type_kind(code);
-            match kind {
-                15 | 16 => SurfaceKind::Collection(at),
-                17 => SurfaceKind::Triangle(at),
-                _ => SurfaceKind::NoSurface,
-            }
-        }
+    let h = gpb::read_header(s).ok()?;
+    match Kind::try_from(fields::type_kind(h.code)) {
+        Ok(Kind::PolyhedralSurface) => Some(Surface::Collection(h.at)),
+        Ok(Kind::Tin) => Some(Surface::Collection(h.at)),
+        Ok(Kind::Triangle) => Some(Surface::Triangle(h.at)),
+        _ => None,
     }
 }
 
 // The end of the patch at a position.
-fn scan_patch(s: &[u8], at: usize) -> Scanned
+#[tactic(auto, using(crate::proofs::Scans::counted_refused, crate::proofs::Scans::counted_ends), unfolding(crate::specs::Patches::patch_at, crate::specs::Patches::patch_from, crate::specs::Inner::scan_end))]
+fn scan_patch(s: &[u8], at: usize) -> Result<usize, Reason>
     ensures { result ≡ scan_end (patch_at s.now at) }
 {
-    match coords::read_header(s, at) {
-        ParsedHeader::Refused(k) => Scanned::Refused(k),
-        ParsedHeader::Read(h) => match coords::count_rings(s, h, h.body) {
-            Counts::Refused(k) => Scanned::Refused(k),
-            Counts::Accepted {
-                coords,
-                runs,
-                others,
-                end,
-            } => Scanned::Ends(end),
-        },
-    }
+    let h = coords::read_header(s, at)?;
+    let counts = coords::count_rings(s, h, h.body)?;
+    Ok(counts.end)
 }
 
 // The end of so many patches from a position on.
-fn scan_patches(s: &[u8], count: u64, at: usize) -> Scanned
+#[tactic(auto, using(crate::proofs::Scans::turn_ends, crate::proofs::Scans::turn_refused, crate::proofs::Scans::turns_end))]
+fn scan_patches(s: &[u8], count: u64, at: usize) -> Result<usize, Reason>
     ensures { result ≡ scan_end (times ◌∷◌ [] (patch_at s.now) count at) }
 {
-    let mut left = count;
     let mut next = at;
-    while 0 < left {
-        match scan_patch(s, next) {
-            Scanned::Refused(k) => {
-                return Scanned::Refused(k);
-            }
-            Scanned::Ends(end) => {
-                next = end;
-            }
-        }
-        left -= 1;
+    for _ in 0..count {
+        next = scan_patch(s, next)?;
     }
-    Scanned::Ends(next)
-}
-
-// The refusal of the one blob there is.
-fn refuse(k: u8) -> PatchRange
-    ensures { patch_value result ≡ refusing k 1 }
-{
-    PatchRange::Refused(Refusal { number: k, side: 1 })
-}
-
-// The part from a start to the blob's end.
-fn to_end(s: &[u8], start: usize) -> PatchRange
-    ensures { result ≡ Part start (length s.now) }
-{
-    let end = s.len();
-    PatchRange::Part { start, end }
+    Ok(next)
 }
 
 // Patch n of so many from a position on; every one is scanned, once.
-fn range_in(s: &[u8], count: u64, n: u64, at: usize) -> PatchRange
-    ensures { patch_value result ≡ patch_in n (times ◌∷◌ [] (patch_at s.now) count at) }
+#[tactic(auto, using(crate::proofs::InRow::past_refused, crate::proofs::InRow::past_nothing, crate::proofs::InRow::before_refused, crate::proofs::InRow::itself_refused, crate::proofs::InRow::rest_refused, crate::proofs::InRow::all_scanned, crate::proofs::InRow::patch_ends))]
+fn range_in(s: &[u8], count: u64, n: u64, at: usize) -> Result<Option<Part>, PatchError>
+    ensures { result ≡ patch_in n (times ◌∷◌ [] (patch_at s.now) count at) }
 {
     if count <= n {
-        return match scan_patches(s, count, at) {
-            Scanned::Refused(k) => refuse(k),
-            Scanned::Ends(end) => PatchRange::Nothing,
-        };
+        scan_patches(s, count, at)?;
+        return Ok(None);
     }
-    match scan_patches(s, n, at) {
-        Scanned::Refused(k) => refuse(k),
-        Scanned::Ends(start) => match scan_patch(s, start) {
-            Scanned::Refused(k) => refuse(k),
-            Scanned::Ends(end) => match scan_patches(s, count - n - 1, end) {
-                Scanned::Refused(k) => refuse(k),
-                Scanned::Ends(last) => PatchRange::Part { start, end },
-            },
-        },
-    }
+    let start = scan_patches(s, n, at)?;
+    let end = scan_patch(s, start)?;
+    scan_patches(s, count - n - 1, end)?;
+    Ok(Some(Part { start, end }))
 }
 
 // The count of a collection's patches, and where the first starts.
-fn count_patches(s: &[u8], at: usize) -> PatchCount
+#[tactic(auto, unfolding(crate::specs::Inner::count_from))]
+fn count_patches(s: &[u8], at: usize) -> Result<PatchList, Reason>
     ensures { result ≡ count_from s.now (header_at s.now at) }
 {
-    match coords::read_header(s, at) {
-        ParsedHeader::Refused(k) => PatchCount::Refused(k),
-        ParsedHeader::Read(h) => {
-            let body = h.body;
-            if coords::is_short(s.len(), body, 4) {
-                return PatchCount::Refused(9);
-            }
-            let count = fields::u32_at(s, body, h.little) as u64;
-            PatchCount::Counted {
-                first: body + 4,
-                count,
-            }
-        }
+    let h = coords::read_header(s, at)?;
+    let body = h.body;
+    if coords::is_short(s.len(), body, 4) {
+        return Err(Reason::BytesMissing);
     }
+    let count = fields::u32_at(s, body, h.little);
+    Ok(PatchList {
+        first: body + 4,
+        count: u64::from(count),
+    })
 }
 
 // Patch n of the collection at a position.
-fn range_of_collection(s: &[u8], at: usize, n: u64) -> PatchRange
-    ensures { patch_value result ≡ patch_in n (patches_from s.now (header_at s.now at)) }
+#[tactic(auto, using(crate::proofs::InRow::collection_refused, crate::proofs::InRow::collection_counted), unfolding(crate::specs::Patches::patch_in))]
+fn range_of_collection(s: &[u8], at: usize, n: u64) -> Result<Option<Part>, PatchError>
+    ensures { result ≡ patch_in n (patches_from s.now (header_at s.now at)) }
 {
-    match count_patches(s, at) {
-        PatchCount::Refused(k) => refuse(k),
-        PatchCount::Counted { first, count } => range_in(s, count, n, first),
-    }
+    let patches = count_patches(s, at)?;
+    range_in(s, patches.count, n, patches.first)
 }
 
 // Where patch n of a blob stands, 0-based.
-pub fn patch_range(s: &[u8], n: u64) -> PatchRange
-    ensures { patch_value result ≡ patch_of s.now n }
+#[tactic(auto, using(crate::proofs::InRow::only_nothing, crate::proofs::InRow::only_first), unfolding(crate::specs::Patches::patch_of, crate::specs::Patches::surface_of, crate::specs::Patches::surface_by_kind, crate::specs::Patches::patch_of_surface))]
+pub fn patch_range(s: &[u8], n: u64) -> Result<Option<Part>, PatchError>
+    ensures { result ≡ patch_of s.now n }
 {
     match surface_kind(s) {
-        SurfaceKind::NoSurface => PatchRange::NoSurface,
-        SurfaceKind::Collection(at) => range_of_collection(s, at, n),
-        SurfaceKind::Triangle(at) => {
+        None => Err(PatchError::NoSurface),
+        Some(Surface::Collection(at)) => range_of_collection(s, at, n),
+        Some(Surface::Triangle(at)) => {
             if n == 0 {
-                to_end(s, at)
+                Ok(Some(to_end(s, at)))
             } else {
-                PatchRange::Nothing
+                Ok(None)
             }
         }
     }
 }
 
+// The part from a start to the blob's end.
+fn to_end(s: &[u8], start: usize) -> Part
+    ensures { (result.start ≡ start) × (result.end ≡ length s.now) }
+{
+    let end = s.len();
+    Part { start, end }
+}
+
 // The patches of the collection at a position; every one is scanned.
-fn list_of_collection(s: &[u8], at: usize) -> PatchList
+#[tactic(auto, using(crate::proofs::InRow::collection_refused, crate::proofs::InRow::collection_counted, crate::proofs::InRow::list_scanned, crate::proofs::InRow::list_refused), unfolding(crate::specs::Patches::list_in))]
+fn list_of_collection(s: &[u8], at: usize) -> Result<PatchList, PatchError>
     ensures { result ≡ list_in (patches_from s.now (header_at s.now at)) }
 {
-    match count_patches(s, at) {
-        PatchCount::Refused(k) => PatchList::Refused(Refusal { number: k, side: 1 }),
-        PatchCount::Counted { first, count } => match scan_patches(s, count, first) {
-            Scanned::Refused(k) => PatchList::Refused(Refusal { number: k, side: 1 }),
-            Scanned::Ends(end) => PatchList::Listed { first, count },
-        },
-    }
+    let patches = count_patches(s, at)?;
+    scan_patches(s, patches.count, patches.first)?;
+    Ok(patches)
 }
 
 // The patches of a blob.
-pub fn patch_list(s: &[u8]) -> PatchList
+#[tactic(auto, unfolding(crate::specs::Patches::list_of, crate::specs::Patches::surface_of, crate::specs::Patches::surface_by_kind, crate::specs::Patches::list_of_surface, crate::specs::Patches::list_in, crate::specs::Patches::first_start))]
+pub fn patch_list(s: &[u8]) -> Result<PatchList, PatchError>
     ensures { result ≡ list_of s.now }
 {
     match surface_kind(s) {
-        SurfaceKind::NoSurface => PatchList::NoSurface,
-        SurfaceKind::Collection(at) => list_of_collection(s, at),
-        SurfaceKind::Triangle(at) => PatchList::Listed {
+        None => Err(PatchError::NoSurface),
+        Some(Surface::Collection(at)) => list_of_collection(s, at),
+        Some(Surface::Triangle(at)) => Ok(PatchList {
             first: at,
             count: 1,
-        },
+        }),
     }
 }
 
 // Where the next patch from a position on stands, with so many left.
-fn next_range(s: &[u8], at: usize, left: u64) -> PatchRange
-    ensures { patch_value result ≡ next_of s.now at left }
+#[tactic(auto, using(crate::proofs::InRow::scanned_part, crate::proofs::InRow::scanned_refusing), unfolding(crate::specs::Patches::next_of, crate::specs::Patches::next_by_kind))]
+fn next_range(s: &[u8], at: usize, left: u64) -> Result<Option<Part>, PatchError>
+    ensures { result ≡ next_of s.now at left }
 {
     if left == 0 {
-        return PatchRange::Nothing;
+        return Ok(None);
     }
     match surface_kind(s) {
-        SurfaceKind::NoSurface => PatchRange::NoSurface,
-        SurfaceKind::Triangle(start) => to_end(s, start),
-        SurfaceKind::Collection(start) => match scan_patch(s, at) {
-            Scanned::Refused(k) => refuse(k),
-            Scanned::Ends(end) => PatchRange::Part { start: at, end },
-        },
+        None => Err(PatchError::NoSurface),
+        Some(Surface::Triangle(start)) => Ok(Some(to_end(s, start))),
+        Some(Surface::Collection(start)) => {
+            let end = scan_patch(s, at)?;
+            Ok(Some(Part { start: at, end }))
+        }
     }
 }
 
 // The bytes of that patch, as a part of the blob; empty where there is none.
+#[tactic(auto, using(crate::proofs::Bounds::next_in_blob), unfolding(crate::specs::Patches::bytes_of))]
 fn next_bytes(s: &[u8], at: usize, left: u64) -> &[u8]
     ensures { result.now ≡ bytes_of s.now (next_of s.now at left) }
 {
     match next_range(s, at, left) {
-        PatchRange::Part { start, end } => &s[start..end],
-        PatchRange::Nothing => &s[..0],
-        PatchRange::NoSurface => &s[..0],
-        PatchRange::Refused(refusal) => &s[..0],
+        Ok(Some(Part { start, end })) => &s[start..end],
+        Ok(None) => &s[..0],
+        Err(_) => &s[..0],
     }
-}
-
-// One less, down to 0.
-fn one_less(count: u64) -> u64
-    ensures { result ≡ count - 1 }
-{
-    if count == 0 { 0 } else { count - 1 }
 }
 
 // A surface's blob, where its next patch starts, and how many are left from there on.
@@ -269,16 +220,15 @@ impl<'a> Cursor<'a> {
     // The cursor at a position; at a list's start, before patch 0.
     pub fn new(blob: &'a [u8], at: usize, left: u64) -> Cursor<'a>
         ensures made { (result.blob ≡ blob.entry) × (result.at ≡ at) × (result.left ≡ left) }
-        ensures first { list_of blob.now ≡ Listed at left → StandsBefore result 0 }
+        ensures first { list_of blob.now ≡ listed at left → StandsBefore result 0 }
     {
         Cursor { blob, at, left }
     }
 
     // Where the next patch stands: patch n, before which the cursor stands.
-    pub fn range(self) -> PatchRange
-        ensures next { patch_value result ≡ next_by self.entry }
-        ensures patch_n { (n : ℕ) → StandsBefore self.entry n
-            → patch_value result ≡ patch_by self.entry n }
+    pub fn range(self) -> Result<Option<Part>, PatchError>
+        ensures next { result ≡ next_by self.entry }
+        ensures patch_n { (n : ℕ) → StandsBefore self.entry n → result ≡ patch_by self.entry n }
     {
         next_range(self.blob, self.at, self.left)
     }
@@ -299,11 +249,10 @@ impl<'a> Cursor<'a> {
         ensures one_on { (n start : ℕ) → StandsBefore self.entry n
             → patch_by self.entry n ≡ part start end → StandsBefore result (n + 1) }
     {
-        let left = one_less(self.left);
         Cursor {
             blob: self.blob,
             at: end,
-            left,
+            left: self.left.saturating_sub(1),
         }
     }
 }

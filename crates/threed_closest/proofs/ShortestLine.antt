@@ -2,9 +2,9 @@
 -- crossing. Assumes nothing.
 use mathlib.Core.Path.{◌≡◌, sym, subst}
 use mathlib.Core.List.{List, ◌++◌}
-use mathlib.Core.Option.{none, some}
 use Prim.Native.Nat.{ℕ, ◌<◌}
 use lib.ListN.{get_or}
+use Rattle.std.specs.Prelude.{None, Some}
 use Rattle.refusals.specs.Checks.{first_of}
 use Rattle.parts.specs.Points.{point_of}
 use Rattle.extremes.specs.Extreme.{measured, distance_of, at_least, Holds}
@@ -19,7 +19,7 @@ use Rattle.outcomes.proofs.FirstExtremeLine.{point_binary64, accepted_line}
 use Rattle.outcomes.proofs.Rules.{points_by_every_rule}
 
 -- the closest pair of two blobs that hold point runs only
-closest_holds : (rule : ℕ) (a b : List ℕ) → PointRunsOnly (runs_of_blob a) → PointRunsOnly (runs_of_blob b) → Holds (distance_of point_of) at_least (vertices_of_blob a) (vertices_of_blob b) (closest_pair rule a b ≡ none) (λ p. closest_pair rule a b ≡ some (measured point_of p))
+closest_holds : (rule : ℕ) (a b : List ℕ) → PointRunsOnly (runs_of_blob a) → PointRunsOnly (runs_of_blob b) → Holds (distance_of point_of) at_least (vertices_of_blob a) (vertices_of_blob b) (closest_pair rule a b ≡ None) (λ p. closest_pair rule a b ≡ Some (measured point_of p))
 closest_holds rule a b p q = rw (points_by_every_rule rule a b p q) (shortest_line_of_runs point_of point_binary64 (runs_of_blob a) (runs_of_blob b) p q)
 
 module _ (a b : List ℕ) (rule : ℕ) (w : Workspaces) (output : List ℕ) (bytes1 : (i : ℕ) → get_or a i 0 < 256) (bytes2 : (i : ℕ) → get_or b i 0 < 256) where

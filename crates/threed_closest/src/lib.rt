@@ -5,9 +5,8 @@
 #![tactic(auto)]
 
 ghost use Rattle.std.specs.Prelude.{◌≡◌, []};
-ghost use Rattle.parts.specs.Stored.{stored_runs, Laid};
-ghost use Rattle.extremes.specs.Found.{answer_of};
 ghost use Rattle.items.specs.Items.{items_of};
+ghost use Rattle.parts.specs.Stored.{stored_runs, Laid};
 ghost use Rattle.outcomes.specs.Lent.{lent, left};
 ghost use Rattle.outcomes.specs.Answers.{nothing, blob, answering, answer_report, decision_report, written_report};
 ghost use Rattle.outcomes.specs.Operations.{outcome, closest_by_rule, closest_pair, distance, within, intersects};
@@ -16,10 +15,11 @@ ghost use Rattle.outcomes.specs.Inner.{PairSwept};
 ghost use Rattle.outcomes.specs.ThirdProperty.{ShortestOfPoints};
 ghost use Rattle.reading.specs.Inner.{first_by_rule};
 
-use extremes::ExtremePair;
 use gpb::{LINE_BYTES, POINT_BYTES};
-use outcomes::{Answer, Decision, Swept, Written};
-use reading::{Asked, BothRead, Question};
+use outcomes::{Answer, Decision, Swept, WrittenBlob};
+use primitives::Witness;
+use reading::{Asked, Question};
+use refusals::Refusal;
 
 // The closest pair of what two workspaces hold, by a rule: where no side has a face rule 2 is rule 1, whose sweep is
 // the faster one. It is called from this place alone, so that the compiler puts it here.
@@ -30,17 +30,15 @@ fn sweep(
     floats2: &[f64],
     table2: &[u32],
     stop_at_zero: bool,
-) -> ExtremePair
+) -> Option<Witness>
     requires laid { Laid table1.now floats1.now }
     requires laid_2 { Laid table2.now floats2.now }
-    ensures { result ≡ answer_of (closest_by_rule rule
+    ensures { result ≡ closest_by_rule rule
         (items_of (stored_runs table1.now floats1.now))
-        (items_of (stored_runs table2.now floats2.now))) }
+        (items_of (stored_runs table2.now floats2.now)) }
 {
-    if rule == 2 {
-        if closest_rule2::any_face(table1, table2) {
-            return closest_rule2::closest(floats1, table1, floats2, table2, stop_at_zero);
-        }
+    if rule == 2 && closest_rule2::any_face(table1, table2) {
+        return closest_rule2::closest(floats1, table1, floats2, table2, stop_at_zero);
     }
     closest::closest(floats1, table1, floats2, table2, stop_at_zero)
 }
@@ -56,30 +54,21 @@ fn closest_pair(
     floats2: &mut [f64],
     table2: &mut [u32],
     stop_at_zero: bool,
-) -> Swept
-    ensures { PairSwept (first_by_rule question a.now b.now
-        (lent floats1 table1 floats2 table2)) (closest_pair question.rule a.now b.now)
-        a.now b.now
-        (lent floats1 table1 floats2 table2) (left floats1 table1 floats2 table2) result }
+) -> Result<Option<Swept>, Refusal>
+    ensures { PairSwept (first_by_rule question a.now b.now (lent floats1 table1 floats2 table2))
+        (closest_pair question.rule a.now b.now)
+        a.now b.now (lent floats1 table1 floats2 table2) (left floats1 table1 floats2 table2) result }
 {
-    match reading::read_by_rule(a, b, question, floats1, table1, floats2, table2) {
-        BothRead::Refused(refusal) => Swept::Refused(refusal),
-        BothRead::Stored {
-            numbers1,
-            numbers2,
-            srid,
-        } => {
-            let found = sweep(
-                question.rule,
-                floats1,
-                &table1[..numbers1],
-                floats2,
-                &table2[..numbers2],
-                stop_at_zero,
-            );
-            outcomes::with_srid(found, srid)
-        }
-    }
+    let read = reading::read_by_rule(a, b, question, floats1, table1, floats2, table2)?;
+    let found = sweep(
+        question.rule,
+        floats1,
+        &table1[..read.numbers1],
+        floats2,
+        &table2[..read.numbers2],
+        stop_at_zero,
+    );
+    Ok(outcomes::with_srid(found, read.srid))
 }
 
 // The least distance of an item of side 1 from one of side 2.
@@ -99,8 +88,7 @@ pub fn st_3d_distance(
         asked: Asked::Distance,
         rule,
     };
-    let pair = closest_pair(a, b, question, floats1, table1, floats2, table2, false);
-    outcomes::measured(pair)
+    Answer::from(closest_pair(a, b, question, floats1, table1, floats2, table2, false))
 }
 
 // Whether the distance is at most d; no where there is none.
@@ -121,9 +109,10 @@ pub fn st_3d_dwithin(
         asked: Asked::Within(d),
         rule,
     };
-    let pair = closest_pair(a, b, question, floats1, table1, floats2, table2, false);
-    let answer = outcomes::measured(pair);
-    outcomes::within(answer, d)
+    let answer = Answer::from(closest_pair(
+        a, b, question, floats1, table1, floats2, table2, false,
+    ));
+    answer.within(d)
 }
 
 // Whether the distance is 0; no where there is none.
@@ -143,9 +132,8 @@ pub fn st_3d_intersects(
         asked: Asked::Distance,
         rule,
     };
-    let pair = closest_pair(a, b, question, floats1, table1, floats2, table2, true);
-    let answer = outcomes::measured(pair);
-    outcomes::touching(answer)
+    let answer = Answer::from(closest_pair(a, b, question, floats1, table1, floats2, table2, true));
+    answer.touching()
 }
 
 // Side 1's point of the closest pair.
@@ -158,18 +146,17 @@ pub fn st_3d_closest_point(
     floats2: &mut [f64],
     table2: &mut [u32],
     output: &mut [u8],
-) -> Written
-    ensures whole_outcome { outcome (written_report result) (left floats1 table1 floats2 table2)
-        output.new ≡ closest_point a.now b.now rule
-        (lent floats1 table1 floats2 table2) output.old }
+) -> WrittenBlob
+    ensures whole_outcome { outcome (written_report result) (left floats1 table1 floats2 table2) output.new
+        ≡ closest_point a.now b.now rule (lent floats1 table1 floats2 table2) output.old }
 {
     let asked = Asked::Bytes {
         lent: output.len(),
         needed: POINT_BYTES,
     };
     let question = Question { asked, rule };
-    let pair = closest_pair(a, b, question, floats1, table1, floats2, table2, false);
-    outcomes::write_point(pair, output)
+    let pair = closest_pair(a, b, question, floats1, table1, floats2, table2, false)?;
+    Ok(outcomes::write_point(pair, output))
 }
 
 // The line between the closest pair, from side 1's point to side 2's.
@@ -182,10 +169,9 @@ pub fn st_3d_shortest_line(
     floats2: &mut [f64],
     table2: &mut [u32],
     output: &mut [u8],
-) -> Written
-    ensures whole_outcome { outcome (written_report result) (left floats1 table1 floats2 table2)
-        output.new ≡ shortest_line a.now b.now rule
-        (lent floats1 table1 floats2 table2) output.old }
+) -> WrittenBlob
+    ensures whole_outcome { outcome (written_report result) (left floats1 table1 floats2 table2) output.new
+        ≡ shortest_line a.now b.now rule (lent floats1 table1 floats2 table2) output.old }
     ensures shortest_of_points { ShortestOfPoints (answering nothing) (answering blob)
         a.now b.now rule (lent floats1 table1 floats2 table2) output.old
         (written_report result) output.new }
@@ -195,6 +181,6 @@ pub fn st_3d_shortest_line(
         needed: LINE_BYTES,
     };
     let question = Question { asked, rule };
-    let pair = closest_pair(a, b, question, floats1, table1, floats2, table2, false);
-    outcomes::write_line(pair, output)
+    let pair = closest_pair(a, b, question, floats1, table1, floats2, table2, false)?;
+    Ok(outcomes::write_line(pair, output))
 }

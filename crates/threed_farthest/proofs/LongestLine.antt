@@ -15,7 +15,7 @@ use Rattle.outcomes.proofs.FirstExtremeLine.{point_binary64, accepted_line}
 module _ (a b : List ℕ) (w : Workspaces) (output : List ℕ) (bytes1 : (i : ℕ) → get_or a i 0 < 256) (bytes2 : (i : ℕ) → get_or b i 0 < 256) where
   -- whatever the two blobs hold
   pub longest_of_all : LongestOfAll (answering nothing) (answering blob) a b w output (longest_line a b w output).report (longest_line a b w output).output
-  unfolding longest_line farthest_pair
+  unfolding longest_line
   longest_of_all =
       record {
         first_extreme_line = accepted_line a b bytes1 bytes2 (farthest_pair a b) (longest_line_of point_of point_binary64 (vertices_of_blob a) (vertices_of_blob b)) output (first_of (line_checks a b w output)) (filled a b w) w;

@@ -13,8 +13,10 @@ ghost use Rattle.outcomes.specs.ThirdProperty.{LongestOfAll};
 ghost use Rattle.reading.specs.Inner.{first_asked};
 
 use gpb::LINE_BYTES;
-use outcomes::{Answer, Decision, Swept, Written};
-use reading::{Asked, BothRead};
+use outcomes::{Answer, Decision, Swept, WrittenBlob};
+use parts::Stored;
+use reading::Asked;
+use refusals::Refusal;
 
 // The farthest pair of the vertices of two blobs, once they are read into lent memory.
 fn farthest_pair(
@@ -25,27 +27,15 @@ fn farthest_pair(
     table1: &mut [u32],
     floats2: &mut [f64],
     table2: &mut [u32],
-) -> Swept
+) -> Result<Option<Swept>, Refusal>
     ensures { PairSwept (first_asked asked a.now b.now (lent floats1 table1 floats2 table2))
-        (farthest_pair a.now b.now) a.now b.now
-        (lent floats1 table1 floats2 table2) (left floats1 table1 floats2 table2) result }
+        (farthest_pair a.now b.now) a.now b.now (lent floats1 table1 floats2 table2) (left floats1 table1 floats2 table2) result }
 {
-    match reading::read_both(a, b, asked, floats1, table1, floats2, table2) {
-        BothRead::Refused(refusal) => Swept::Refused(refusal),
-        BothRead::Stored {
-            numbers1,
-            numbers2,
-            srid,
-        } => {
-            let found = farthest::farthest(
-                floats1,
-                &table1[..numbers1],
-                floats2,
-                &table2[..numbers2],
-            );
-            outcomes::with_srid(found, srid)
-        }
-    }
+    let read = reading::read_both(a, b, asked, floats1, table1, floats2, table2)?;
+    let first = Stored::new(floats1, &table1[..read.numbers1]);
+    let second = Stored::new(floats2, &table2[..read.numbers2]);
+    let found = farthest::farthest(&first, &second);
+    Ok(outcomes::with_srid(found, read.srid))
 }
 
 // The greatest distance of a vertex of side 1 from one of side 2.
@@ -60,8 +50,7 @@ pub fn st_3d_max_distance(
     ensures whole_outcome { outcome (answer_report result) (left floats1 table1 floats2 table2) []
         ≡ max_distance a.now b.now (lent floats1 table1 floats2 table2) }
 {
-    let pair = farthest_pair(a, b, Asked::Distance, floats1, table1, floats2, table2);
-    outcomes::measured(pair)
+    Answer::from(farthest_pair(a, b, Asked::Distance, floats1, table1, floats2, table2))
 }
 
 // Whether the greatest distance of a vertex of side 1 from one of side 2 is at most d; no where there is none.
@@ -77,9 +66,16 @@ pub fn st_3d_dfully_within(
     ensures whole_outcome { outcome (decision_report result) (left floats1 table1 floats2 table2) []
         ≡ fully_within a.now b.now d (lent floats1 table1 floats2 table2) }
 {
-    let pair = farthest_pair(a, b, Asked::Within(d), floats1, table1, floats2, table2);
-    let answer = outcomes::measured(pair);
-    outcomes::within(answer, d)
+    let answer = Answer::from(farthest_pair(
+        a,
+        b,
+        Asked::Within(d),
+        floats1,
+        table1,
+        floats2,
+        table2,
+    ));
+    answer.within(d)
 }
 
 // The line between the farthest pair, from side 1's vertex to side 2's.
@@ -91,10 +87,9 @@ pub fn st_3d_longest_line(
     floats2: &mut [f64],
     table2: &mut [u32],
     output: &mut [u8],
-) -> Written
-    ensures whole_outcome { outcome (written_report result) (left floats1 table1 floats2 table2)
-        output.new ≡ longest_line a.now b.now
-        (lent floats1 table1 floats2 table2) output.old }
+) -> WrittenBlob
+    ensures whole_outcome { outcome (written_report result) (left floats1 table1 floats2 table2) output.new
+        ≡ longest_line a.now b.now (lent floats1 table1 floats2 table2) output.old }
     ensures longest_of_all { LongestOfAll (answering nothing) (answering blob)
         a.now b.now (lent floats1 table1 floats2 table2) output.old
         (written_report result) output.new }
@@ -103,6 +98,6 @@ pub fn st_3d_longest_line(
         lent: output.len(),
         needed: LINE_BYTES,
     };
-    let pair = farthest_pair(a, b, asked, floats1, table1, floats2, table2);
-    outcomes::write_line(pair, output)
+    let pair = farthest_pair(a, b, asked, floats1, table1, floats2, table2)?;
+    Ok(outcomes::write_line(pair, output))
 }

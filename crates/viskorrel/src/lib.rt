@@ -10,7 +10,7 @@ ghost use Rattle.interpolation.specs.Operation.{line_interpolate_point};
 ghost use Rattle.ieee754.specs.MinMax.{positive_zero};
 ghost use Rattle.ieee754.specs.Root.{root_of};
 ghost use Rattle.ieee754.specs.Digits.{digits_needed};
-ghost use Rattle.surface.specs.Patches.{patch_value, patch_of, list_of, next_of, Before};
+ghost use Rattle.surface.specs.Patches.{patch_of, list_of, next_of, Before};
 ghost use Rattle.joining.specs.Joined.{joined_blob, join_checks};
 ghost use Rattle.joining.specs.Promises.{JoinReads, JoinMaxDistance};
 ghost use Rattle.outcomes.specs.Lent.{lent, left, lent_one, left_one};
@@ -23,9 +23,8 @@ ghost use Rattle.replies.specs.Replies.{reply_size, returned_size, size_returned
 ghost use Rattle.dig_matcher.specs.Job.{hit_lists};
 ghost use Rattle.replies.specs.PatchReplies.{patches_reply};
 
-use blob::{BlobRead, Sizes};
-use replies::{ANSWERED, NO_SURFACE, PairReply, Reply, RootReply, pair, pair_refused};
-use surface::{Cursor, PatchList, PatchRange};
+use replies::{PairReply, Reply, RootReply};
+use surface::Cursor;
 use workspace::{FLOATS_PER_COORDINATE, NUMBERS_PER_RUN};
 
 // The least distance of a and b.
@@ -42,9 +41,7 @@ pub extern "C" fn viskorrel_3d_distance(
     ensures whole_outcome { returned result (left floats1 table1 floats2 table2) []
         ≡ returned_of (distance a.now b.now rule (lent floats1 table1 floats2 table2)) }
 {
-    replies::reply_to_answer(threed_closest::st_3d_distance(
-        a, b, rule, floats1, table1, floats2, table2,
-    ))
+    threed_closest::st_3d_distance(a, b, rule, floats1, table1, floats2, table2).into()
 }
 
 // The greatest distance of a vertex of a from one of b.
@@ -60,9 +57,7 @@ pub extern "C" fn viskorrel_3d_max_distance(
     ensures whole_outcome { returned result (left floats1 table1 floats2 table2) []
         ≡ returned_of (max_distance a.now b.now (lent floats1 table1 floats2 table2)) }
 {
-    replies::reply_to_answer(threed_farthest::st_3d_max_distance(
-        a, b, floats1, table1, floats2, table2,
-    ))
+    threed_farthest::st_3d_max_distance(a, b, floats1, table1, floats2, table2).into()
 }
 
 // Whether a and b are at most d apart.
@@ -80,9 +75,7 @@ pub extern "C" fn viskorrel_3d_dwithin(
     ensures whole_outcome { returned result (left floats1 table1 floats2 table2) []
         ≡ returned_of (within a.now b.now d rule (lent floats1 table1 floats2 table2)) }
 {
-    replies::reply_to_decision(threed_closest::st_3d_dwithin(
-        a, b, d, rule, floats1, table1, floats2, table2,
-    ))
+    threed_closest::st_3d_dwithin(a, b, d, rule, floats1, table1, floats2, table2).into()
 }
 
 // Whether the greatest distance of a vertex of a from one of b is at most d; no where there is none.
@@ -99,9 +92,7 @@ pub extern "C" fn viskorrel_3d_dfully_within(
     ensures whole_outcome { returned result (left floats1 table1 floats2 table2) []
         ≡ returned_of (fully_within a.now b.now d (lent floats1 table1 floats2 table2)) }
 {
-    replies::reply_to_decision(threed_farthest::st_3d_dfully_within(
-        a, b, d, floats1, table1, floats2, table2,
-    ))
+    threed_farthest::st_3d_dfully_within(a, b, d, floats1, table1, floats2, table2).into()
 }
 
 // Whether the least distance is 0.
@@ -118,9 +109,7 @@ pub extern "C" fn viskorrel_3d_intersects(
     ensures whole_outcome { returned result (left floats1 table1 floats2 table2) []
         ≡ returned_of (intersects a.now b.now rule (lent floats1 table1 floats2 table2)) }
 {
-    replies::reply_to_decision(threed_closest::st_3d_intersects(
-        a, b, rule, floats1, table1, floats2, table2,
-    ))
+    threed_closest::st_3d_intersects(a, b, rule, floats1, table1, floats2, table2).into()
 }
 
 // The point of a that is closest to b.
@@ -139,9 +128,7 @@ pub extern "C" fn viskorrel_3d_closest_point(
         ≡ returned_of (closest_point a.now b.now rule (lent floats1 table1 floats2 table2)
         output.old) }
 {
-    replies::reply_to_written(threed_closest::st_3d_closest_point(
-        a, b, rule, floats1, table1, floats2, table2, output,
-    ))
+    threed_closest::st_3d_closest_point(a, b, rule, floats1, table1, floats2, table2, output).into()
 }
 
 // The line from the point of a that is closest to b, to the one of b.
@@ -163,9 +150,7 @@ pub extern "C" fn viskorrel_3d_shortest_line(
         a.now b.now rule (lent floats1 table1 floats2 table2) output.old
         result output.new }
 {
-    replies::reply_to_written(threed_closest::st_3d_shortest_line(
-        a, b, rule, floats1, table1, floats2, table2, output,
-    ))
+    threed_closest::st_3d_shortest_line(a, b, rule, floats1, table1, floats2, table2, output).into()
 }
 
 // The line between the vertices that are farthest apart.
@@ -186,9 +171,7 @@ pub extern "C" fn viskorrel_3d_longest_line(
         a.now b.now (lent floats1 table1 floats2 table2) output.old
         result output.new }
 {
-    replies::reply_to_written(threed_farthest::st_3d_longest_line(
-        a, b, floats1, table1, floats2, table2, output,
-    ))
+    threed_farthest::st_3d_longest_line(a, b, floats1, table1, floats2, table2, output).into()
 }
 
 // The point at a fraction of a line's length.
@@ -204,9 +187,7 @@ pub extern "C" fn viskorrel_3d_line_interpolate_point(
         ≡ returned_of (line_interpolate_point blob.now fraction (lent_one floats table)
         output.old) }
 {
-    replies::reply_to_interpolated(interpolation::st_3d_line_interpolate_point(
-        blob, fraction, floats, table, output,
-    ))
+    interpolation::st_3d_line_interpolate_point(blob, fraction, floats, table, output).into()
 }
 
 // Where patch n of a surface stands in its blob: start, then end.
@@ -214,7 +195,7 @@ pub extern "C" fn viskorrel_3d_line_interpolate_point(
 pub extern "C" fn viskorrel_patch(blob: &[u8], n: u64) -> PairReply
     ensures { result ≡ patch_reply (patch_of blob.now n) }
 {
-    replies::reply_to_patch(surface::patch_range(blob, n))
+    surface::patch_range(blob, n).into()
 }
 
 // The lengths to lend for a blob: floats, then numbers of the table.
@@ -222,10 +203,7 @@ pub extern "C" fn viskorrel_patch(blob: &[u8], n: u64) -> PairReply
 pub extern "C" fn viskorrel_sizes(blob: &[u8]) -> PairReply
     ensures { result ≡ sizes_reply (sizes_of blob.now) }
 {
-    match blob::blob_sizes(blob) {
-        Sizes::Lend { floats, numbers } => pair(ANSWERED, floats, numbers),
-        Sizes::Refused(refusal) => pair_refused(refusal),
-    }
+    blob::blob_sizes(blob).into()
 }
 
 // A blob's coordinates and runs into lent memory: the floats filled, then the numbers of the table.
@@ -235,12 +213,11 @@ pub extern "C" fn viskorrel_read(blob: &[u8], floats: &mut [f64], table: &mut [u
         ≡ read_returned blob.now (lent_one floats table) }
 {
     match blob::read_blob(blob, floats, table) {
-        BlobRead::Read { coords, runs, srid } => pair(
-            ANSWERED,
-            FLOATS_PER_COORDINATE * coords,
-            NUMBERS_PER_RUN * runs,
+        Ok(read) => PairReply::answered(
+            FLOATS_PER_COORDINATE * read.coords,
+            NUMBERS_PER_RUN * read.runs,
         ),
-        BlobRead::Refused(refusal) => pair_refused(refusal),
+        Err(refusal) => refusal.into(),
     }
 }
 
@@ -254,7 +231,7 @@ pub extern "C" fn viskorrel_join(a: &[u8], b: &[u8], output: &mut [u8]) -> PairR
     ensures max_distance_of_both { JoinMaxDistance reply_size a.now b.now result
         output.new }
 {
-    replies::reply_to_size(joining::join(a, b, output))
+    joining::join(a, b, output).into()
 }
 
 // A job: the number of its hits, which are in the first places of the three lists, in an order that is left open. What
@@ -274,9 +251,10 @@ pub extern "C" fn viskorrel_job(
         (hit_lists first.old second.old distances.old)
         (hit_lists first.new second.new distances.new) result }
 {
-    replies::reply_to_job(dig_matcher::job(
+    dig_matcher::job(
         tape, floats1, table1, floats2, table2, first, second, distances,
-    ))
+    )
+    .into()
 }
 
 // The patches of a surface: where the first starts, then how many there are.
@@ -285,21 +263,11 @@ pub extern "C" fn viskorrel_patches(blob: &[u8]) -> PairReply
     ensures value { result ≡ patches_reply (list_of blob.now) }
     ensures first { result.case ≡ 1 → Before blob.now result.first result.second 0 }
 {
-    match surface::patch_list(blob) {
-        PatchList::Listed { first, count } => pair(ANSWERED, first, count as usize),
-        PatchList::NoSurface => pair(NO_SURFACE, 0, 0),
-        PatchList::Refused(refusal) => pair_refused(refusal),
-    }
+    surface::patch_list(blob).into()
 }
 
-// A cursor's next patch: C has the cursor's parts, and holds none.
-fn next_of_cursor(blob: &[u8], at: usize, left: u64) -> PatchRange
-    ensures { patch_value result ≡ next_of blob.now at left }
-{
-    Cursor::new(blob, at, left).range()
-}
-
-// Where the next patch from a position on stands, with so many left: start, then end. It alone is scanned.
+// Where the next patch from a position on stands, with so many left: start, then end. It alone is scanned. C has the
+// cursor's parts, and holds none.
 #[unsafe(no_mangle)]
 pub extern "C" fn viskorrel_next_patch(blob: &[u8], at: usize, left: usize) -> PairReply
     ensures value { result ≡ patch_reply (next_of blob.now at left) }
@@ -307,7 +275,7 @@ pub extern "C" fn viskorrel_next_patch(blob: &[u8], at: usize, left: usize) -> P
         → (result ≡ patch_reply (patch_of blob.now n))
         × (result.case ≡ 1 → Before blob.now result.second (left - 1) (n + 1)) }
 {
-    replies::reply_to_patch(next_of_cursor(blob, at, left as u64))
+    Cursor::new(blob, at, left as u64).range().into()
 }
 
 // The square root of a number, and the digits needed: the fewest of its leading binary digits whose square is the
@@ -316,5 +284,5 @@ pub extern "C" fn viskorrel_next_patch(blob: &[u8], at: usize, left: usize) -> P
 pub extern "C" fn viskorrel_root_digits(s: f64) -> RootReply
     ensures { (result.root ≡ root_of s) × (result.digits ≡ digits_needed s) }
 {
-    replies::reply_to_root(ieee754::root_and_digits(s))
+    ieee754::root_and_digits(s).into()
 }

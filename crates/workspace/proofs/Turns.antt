@@ -8,7 +8,7 @@ use native.Mathlib.Numerals.{sub-one}
 use native.Mathlib.Omega.{arith}
 use lib.Dec.{ltb}
 use lib.ListN.{length, length-append}
-use lib.Seq.{sets}
+use lib.Seq.{sets, length-sets}
 use lib.Ieee.{Float}
 use borrow.Author.Tests.{ltb-false}
 use Rattle.fields.proofs.Stores.{sets_append}
@@ -23,7 +23,7 @@ use Rattle.workspace.specs.declared.Progress.{Progress}
 use Rattle.workspace.specs.Workspace.{floats_per_coordinate, numbers_per_run, floats_of, table_of}
 use Rattle.workspace.specs.Inner.{floats_after, table_after, progress_after, ReadyToFill, Filled}
 use Rattle.workspace.proofs.Contents.{length_floats, floats_append, length_table, table_append}
-use Rattle.workspace.proofs.Runs.{passed}
+use Rattle.workspace.proofs.Runs.{passed, moved, ready_moved, progress_moved, floats_moved, table_moved}
 
 -- what is left to write after q comes to what was to be written after p
 pub record Turn (all rest : ParsedRuns) (p q : Progress) (fs : List Float) (ts : List ℕ) (fs' : List Float) (ts' : List ℕ) (lf lt : ℕ) : Type 0 where
@@ -31,9 +31,6 @@ pub record Turn (all rest : ParsedRuns) (p q : Progress) (fs : List Float) (ts :
   pub progress : progress_after all p ≡ progress_after rest q
   pub ordinates : floats_after all p fs ≡ floats_after rest q fs'
   pub rows : table_after all p ts ≡ table_after rest q ts'
-
-pub turn_none : (w : ParsedRuns) (p : Progress) (fs : List Float) (ts : List ℕ) (lf lt : ℕ) → ReadyToFill w p lf lt → Turn w w p p fs ts fs ts lf lt
-turn_none w p fs ts lf lt r = record { ready = r; progress = refl; ordinates = refl; rows = refl }
 
 floats_on : (rs qs : List (Run Coordinate)) (l : List Float) (n : ℕ) → sets l (floats_per_coordinate * n) (floats_of (rs ++ qs)) ≡ sets (sets l (floats_per_coordinate * n) (floats_of rs)) (floats_per_coordinate * (n + coordinate_count rs)) (floats_of qs)
 floats_on rs qs l n =
@@ -72,7 +69,7 @@ ready_then (ok rs e) g p lf lt r = go (g e) r
     go (refused k) r' = absurd r'
     go (ok qs e') r' = (omega (arith, r'.0, coords_append rs qs), omega (arith, r'.1, length-append rs qs))
 
-pub first_ready : (f : ℕ → ParsedRuns) (left at : ℕ) (p : Progress) (lf lt : ℕ) → 0 < left → ReadyToFill (times ◌++◌ [] f left at) p lf lt → ReadyToFill (f at) p lf lt
+first_ready : (f : ℕ → ParsedRuns) (left at : ℕ) (p : Progress) (lf lt : ℕ) → 0 < left → ReadyToFill (times ◌++◌ [] f left at) p lf lt → ReadyToFill (f at) p lf lt
 unfolding times
 first_ready f zero at p lf lt h r = absurd (omega arith)
 first_ready f (suc n) at p lf lt h r = ready_then (f at) (times ◌++◌ [] f n) p lf lt r
@@ -82,16 +79,52 @@ unfolding times
 one_turn f zero p q fs fs' ts ts' lf lt h r d = absurd (omega arith)
 one_turn f (suc n) p q fs fs' ts ts' lf lt h r d = rw sub-one (turn_then (f p.next) (times ◌++◌ [] f n) p q fs fs' ts ts' lf lt r d)
 
-pub next_turn : (f : ℕ → ParsedRuns) (all : ParsedRuns) (left : ℕ) (o p q : Progress) (xs fs fs' : List Float) (ys ts ts' : List ℕ) (lf lt : ℕ) → 0 < left → Turn all (times ◌++◌ [] f left p.next) o p xs ys fs ts lf lt → Filled (f p.next) p fs ts fs' ts' q → Turn all (times ◌++◌ [] f (left - 1) q.next) o q xs ys fs' ts' lf lt
-next_turn f all left o p q xs fs fs' ys ts ts' lf lt h a d =
-    let b = one_turn f left p q fs fs' ts ts' lf lt h a.ready d in
-    record { ready = b.ready; progress = a.progress ∙ b.progress; ordinates = a.ordinates ∙ b.ordinates; rows = a.rows ∙ b.rows }
+-- writing keeps the lengths
+length_sets : {A : Type 0} (xs l : List A) (i : ℕ) → length (sets l i xs) ≡ length l
+length_sets xs l i = length-sets l i xs
 
-pub last_turn : (f : ℕ → ParsedRuns) (all : ParsedRuns) (left : ℕ) (o p : Progress) (xs fs : List Float) (ys ts : List ℕ) (lf lt : ℕ) → left ≡ 0 → Turn all (times ◌++◌ [] f left p.next) o p xs ys fs ts lf lt → Filled all o xs ys fs ts p
-unfolding times progress_after floats_after table_after coordinate_count floats_of table_of
-last_turn f all left o p xs fs ys ts lf lt e a =
-    let b = rw e at a in
-    record { progress = sym (b.progress ∙ simp add-zero); ordinates = sym b.ordinates; rows = sym b.rows }
+filled_lengths : (w : ParsedRuns) (p q : Progress) (fs fs' : List Float) (ts ts' : List ℕ) → Filled w p fs ts fs' ts' q → (length fs' ≡ length fs) × (length ts' ≡ length ts)
+unfolding floats_after table_after
+filled_lengths (ok rs e) p q fs fs' ts ts' f = (ap length f.ordinates ∙ length_sets (floats_of rs) fs (floats_per_coordinate * p.coords), ap length f.rows ∙ length_sets (table_of rs) ts (numbers_per_run * p.runs))
+filled_lengths (refused k) p q fs fs' ts ts' f = (ap length f.ordinates, ap length f.rows)
+
+module _ (f : ℕ → ParsedRuns) (n : ℕ) (all : ParsedRuns) (p : Progress) (fs : List Float) (ts : List ℕ) where
+  -- the first i of n things are written, from p to q: `all` is what the n come to
+  pub record Filling (i : ℕ) (q : Progress) (fs' : List Float) (ts' : List ℕ) : Type 0 where
+    pub turn : Turn all (times ◌++◌ [] f (n - i) q.next) p q fs ts fs' ts' (length fs) (length ts)
+    pub floats : length fs' ≡ length fs
+    pub numbers : length ts' ≡ length ts
+
+  begin : (at : ℕ) → all ≡ times ◌++◌ [] f n at → ReadyToFill all p (length fs) (length ts) → Filling 0 (moved p at) fs ts
+  begin at e r =
+      let none : n - 0 ≡ n = omega arith in
+      record {
+        turn = rw (none, ← e) (record { ready = ready_moved all p at (length fs) (length ts) r; progress = progress_moved all p at; ordinates = floats_moved all p at fs; rows = table_moved all p at ts });
+        floats = refl;
+        numbers = refl;
+      }
+
+  -- there is room for the next
+  pub filling_ready : (i : ℕ) (q : Progress) (fs' : List Float) (ts' : List ℕ) → Filling i q fs' ts' → i < n → ReadyToFill (f q.next) q (length fs') (length ts')
+  filling_ready i q fs' ts' a h = rw (a.floats, a.numbers) (first_ready f (n - i) q.next q (length fs) (length ts) (omega arith) a.turn.ready)
+
+  pub filling_next : (i : ℕ) (q r : Progress) (fs' fs'' : List Float) (ts' ts'' : List ℕ) → Filling i q fs' ts' → i < n → Filled (f q.next) q fs' ts' fs'' ts'' r → Filling (i + 1) r fs'' ts''
+  filling_next i q r fs' fs'' ts' ts'' a h d =
+      let b = one_turn f (n - i) q r fs' fs'' ts' ts'' (length fs) (length ts) (omega arith) a.turn.ready d in
+      let e : n - i - 1 ≡ n - (i + 1) = omega arith in
+      let l = filled_lengths (f q.next) q r fs' fs'' ts' ts'' d in
+      record {
+        turn = rw (← e) (record { ready = b.ready; progress = a.turn.progress ∙ b.progress; ordinates = a.turn.ordinates ∙ b.ordinates; rows = a.turn.rows ∙ b.rows });
+        floats = l.0 ∙ a.floats;
+        numbers = l.1 ∙ a.numbers;
+      }
+
+  pub filling_end : (i : ℕ) (q : Progress) (fs' : List Float) (ts' : List ℕ) → Filling i q fs' ts' → n ≤ i → Filled all p fs ts fs' ts' q
+  unfolding times progress_after floats_after table_after coordinate_count floats_of table_of
+  filling_end i q fs' ts' a h =
+      let e : n - i ≡ 0 = omega arith in
+      let b = rw e at a.turn in
+      record { progress = sym (b.progress ∙ simp add-zero); ordinates = sym b.ordinates; rows = sym b.rows }
 
 list_inside : (f : ℕ → ParsedRuns) (little : Bool) (s : List ℕ) (at : ℕ) (p : Progress) (lf lt : ℕ) → ReadyToFill (list_at ◌++◌ [] f little s at) p lf lt → at + 4 ≤ length s
 unfolding list_at
@@ -104,11 +137,19 @@ list_is f little s at p lf lt r = rw (passed (ltb (length s) (at + 4)) _ p lf lt
 pub rings_inside : (h : WkbHeader) (s : List ℕ) (at : ℕ) (p : Progress) (lf lt : ℕ) → ReadyToFill (rings_at_runs h s at) p lf lt → at + 4 ≤ length s
 rings_inside h s at p lf lt r = list_inside (line_runs h s) h.little s at p lf lt (rw (rings_runs_lem h s at) at r)
 
-pub rings_are : (h : WkbHeader) (s : List ℕ) (at : ℕ) (p : Progress) (lf lt : ℕ) → ReadyToFill (rings_at_runs h s at) p lf lt → rings_at_runs h s at ≡ times ◌++◌ [] (line_runs h s) (u32_at h.little s at) (at + 4)
+rings_are : (h : WkbHeader) (s : List ℕ) (at : ℕ) (p : Progress) (lf lt : ℕ) → ReadyToFill (rings_at_runs h s at) p lf lt → rings_at_runs h s at ≡ times ◌++◌ [] (line_runs h s) (u32_at h.little s at) (at + 4)
 rings_are h s at p lf lt r = rings_runs_lem h s at ∙ list_is (line_runs h s) h.little s at p lf lt (rw (rings_runs_lem h s at) at r)
 
 pub members_inside : (levels : ℕ) (little : Bool) (s : List ℕ) (at : ℕ) (p : Progress) (lf lt : ℕ) → ReadyToFill (members_at_runs levels little s at) p lf lt → at + 4 ≤ length s
 members_inside levels little s at p lf lt r = list_inside (walk_runs levels s) little s at p lf lt (rw (members_runs_lem levels little s at) at r)
 
-pub members_are : (levels : ℕ) (little : Bool) (s : List ℕ) (at : ℕ) (p : Progress) (lf lt : ℕ) → ReadyToFill (members_at_runs levels little s at) p lf lt → members_at_runs levels little s at ≡ times ◌++◌ [] (walk_runs levels s) (u32_at little s at) (at + 4)
+members_are : (levels : ℕ) (little : Bool) (s : List ℕ) (at : ℕ) (p : Progress) (lf lt : ℕ) → ReadyToFill (members_at_runs levels little s at) p lf lt → members_at_runs levels little s at ≡ times ◌++◌ [] (walk_runs levels s) (u32_at little s at) (at + 4)
 members_are levels little s at p lf lt r = members_runs_lem levels little s at ∙ list_is (walk_runs levels s) little s at p lf lt (rw (members_runs_lem levels little s at) at r)
+
+pub rings_begin : (h : WkbHeader) (s : List ℕ) (n : ℕ) (p : Progress) (fs : List Float) (ts : List ℕ) → n ≡ u32_at h.little s p.next → ReadyToFill (rings_at_runs h s p.next) p (length fs) (length ts) → Filling (line_runs h s) n (rings_at_runs h s p.next) p fs ts 0 (moved p (p.next + 4)) fs ts
+rings_begin h s n p fs ts e r =
+    begin (line_runs h s) n (rings_at_runs h s p.next) p fs ts (p.next + 4) (rings_are h s p.next p (length fs) (length ts) r ∙ ap (λ (k : ℕ). times ◌++◌ [] (line_runs h s) k (p.next + 4)) (sym e)) r
+
+pub members_begin : (levels : ℕ) (little : Bool) (s : List ℕ) (n : ℕ) (p : Progress) (fs : List Float) (ts : List ℕ) → n ≡ u32_at little s p.next → ReadyToFill (members_at_runs levels little s p.next) p (length fs) (length ts) → Filling (walk_runs levels s) n (members_at_runs levels little s p.next) p fs ts 0 (moved p (p.next + 4)) fs ts
+members_begin levels little s n p fs ts e r =
+    begin (walk_runs levels s) n (members_at_runs levels little s p.next) p fs ts (p.next + 4) (members_are levels little s p.next p (length fs) (length ts) r ∙ ap (λ (k : ℕ). times ◌++◌ [] (walk_runs levels s) k (p.next + 4)) (sym e)) r

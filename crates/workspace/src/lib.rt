@@ -2,7 +2,7 @@
 // Undecided in its contracts is only the payload, sign included, of a NaN in the floats.
 #![tactic(auto)]
 
-ghost use Rattle.std.specs.Prelude.{◌≡◌, ◌+◌, ◌*◌, ◌≤◌, length};
+ghost use Rattle.std.specs.Prelude.{◌≡◌, ◌+◌, ◌*◌, ◌≤◌, true, length};
 ghost use Rattle.std.proofs.lemmas.List.Edits.{sets};
 ghost use Rattle.std.specs.Float.{binary64};
 ghost use Rattle.std.specs.Float.Ieee.{of_bits};
@@ -12,7 +12,7 @@ ghost use Rattle.coords.specs.Inner.{coordinates_runs, line_runs, rings_at_runs,
 ghost use Rattle.workspace.specs.Workspace.{floats_per_coordinate, coordinate_floats, coordinates_floats, too_small_for, Room, RunsWritten};
 ghost use Rattle.workspace.specs.Inner.{ReadyToFill, Filled};
 
-use coords::{ParsedHeader, WkbHeader};
+use coords::{GeometryClass, WkbHeader};
 use fields::{f64_at, u32_at};
 
 // The floats of a coordinate: x, y, z, m.
@@ -29,69 +29,53 @@ struct Progress {
     pub next: usize,
 }
 
-// The z of a coordinate, or 0 where there is none.
-fn z_at(s: &[u8], z: bool, m: bool, little: bool, at: usize) -> f64
-    requires { at + stride_of z m ≤ length s.now }
-    ensures { result ≡ of_bits binary64 (ordinate_if z little s.now (at + 16)) }
+// An ordinate that may be missing: 0 then.
+#[tactic(auto, unfolding(coords::specs::Walk::ordinate_if, fields::specs::Fields::f64_at))]
+fn ordinate_if(s: &[u8], there: bool, little: bool, at: usize) -> f64
+    requires { there ≡ true → at + 8 ≤ length s.now }
+    ensures { result ≡ of_bits binary64 (ordinate_if there little s.now at) }
 {
-    if z { f64_at(s, at + 16, little) } else { 0.0 }
+    if there { f64_at(s, at, little) } else { 0.0 }
 }
 
 // How far the m of a coordinate lies from its start: after z where there is z.
+#[tactic(auto, unfolding(coords::specs::Walk::m_offset))]
 fn m_offset(z: bool) -> usize
     ensures { result ≡ m_offset z }
 {
     if z { 24 } else { 16 }
 }
 
-// The m of a coordinate, or 0 where there is none.
-fn m_at(s: &[u8], z: bool, m: bool, little: bool, at: usize) -> f64
-    requires { at + stride_of z m ≤ length s.now }
-    ensures { result ≡ of_bits binary64 (ordinate_if m little s.now (at + m_offset z)) }
-{
-    if m {
-        f64_at(s, at + m_offset(z), little)
-    } else {
-        0.0
-    }
-}
-
 // The coordinate at a position, as the i-th.
+#[tactic(auto, using(crate::proofs::Laws::ordinates), unfolding(crate::specs::Workspace::coordinate_floats, coords::specs::Walk::coordinate_at, fields::specs::Fields::f64_at))]
 fn put_coordinate(s: &[u8], h: WkbHeader, at: usize, floats: &mut [f64], i: usize)
     requires h_in_bounds { at + stride h ≤ length s.now }
     requires i_in_bounds { floats_per_coordinate * (i + 1) ≤ length floats.old }
     ensures { floats.new ≡ sets floats.old (floats_per_coordinate * i) (coordinate_floats (coordinate_at h s.now at)) }
 {
     let k = FLOATS_PER_COORDINATE * i;
-    let x = f64_at(s, at, h.little);
-    let y = f64_at(s, at + 8, h.little);
-    let z = z_at(s, h.z, h.m, h.little, at);
-    let m = m_at(s, h.z, h.m, h.little, at);
-    floats[k] = x;
-    floats[k + 1] = y;
-    floats[k + 2] = z;
-    floats[k + 3] = m;
+    floats[k] = f64_at(s, at, h.little);
+    floats[k + 1] = f64_at(s, at + 8, h.little);
+    floats[k + 2] = ordinate_if(s, h.z, h.little, at + 16);
+    floats[k + 3] = ordinate_if(s, h.m, h.little, at + m_offset(h.z));
 }
 
 // n coordinates from a position on, as the i-th and on.
+#[tactic(auto, using(crate::proofs::Laws::rows))]
 fn put_coordinates(s: &[u8], h: WkbHeader, n: usize, at: usize, floats: &mut [f64], i: usize)
     requires h_in_bounds { at + n * stride h ≤ length s.now }
     requires n_in_bounds { floats_per_coordinate * (i + n) ≤ length floats.old }
     ensures { floats.new ≡ sets floats.old (floats_per_coordinate * i) (coordinates_floats (coordinates_from h s.now n at)) }
 {
     let stride = coords::stride_of(h.z, h.m);
-    let mut left = n;
-    let mut pos = at;
-    let mut j = i;
-    while 0 < left {
-        put_coordinate(s, h, pos, floats, j);
-        pos += stride;
-        j += 1;
-        left -= 1;
+    for j in 0..n {
+        put_coordinate(s, h, at + j * stride, floats, i + j);
     }
 }
 
-// A run of n coordinates.
+// A run of n coordinates. Floats and table stay two parameters: a struct of both, lent on, is built anew in each turn of
+// a loop.
+#[tactic(auto, using(crate::proofs::Runs::fills_run))]
 fn fill_run(
     s: &[u8],
     h: WkbHeader,
@@ -104,70 +88,36 @@ fn fill_run(
     ensures { Filled (coordinates_runs h s.now n p.next) p floats.old table.old floats.new table.new result }
 {
     let count = n as usize;
-    let at = p.next;
-    let coords = p.coords;
-    let runs = p.runs;
     if count == 0 {
-        return Progress {
-            coords,
-            runs,
-            next: at,
-        };
+        return p;
     }
-    let total = count * coords::stride_of(h.z, h.m);
-    put_coordinates(s, h, count, at, floats, coords);
-    let k = NUMBERS_PER_RUN * runs;
+    put_coordinates(s, h, count, p.next, floats, p.coords);
+    let k = NUMBERS_PER_RUN * p.runs;
     table[k] = h.kind;
     table[k + 1] = n;
     Progress {
-        coords: coords + count,
-        runs: runs + 1,
-        next: at + total,
-    }
-}
-
-// A point: a run of one coordinate.
-fn fill_point(
-    s: &[u8],
-    h: WkbHeader,
-    p: Progress,
-    floats: &mut [f64],
-    table: &mut [u32],
-) -> Progress
-    requires { ReadyToFill (coordinates_runs h s.now 1 p.next) p (length floats.old) (length table.old) }
-    ensures { Filled (coordinates_runs h s.now 1 p.next) p floats.old table.old floats.new table.new result }
-{
-    let at = p.next;
-    let coords = p.coords;
-    let runs = p.runs;
-    let stride = coords::stride_of(h.z, h.m);
-    put_coordinate(s, h, at, floats, coords);
-    let k = NUMBERS_PER_RUN * runs;
-    table[k] = h.kind;
-    table[k + 1] = 1;
-    Progress {
-        coords: coords + 1,
-        runs: runs + 1,
-        next: at + stride,
+        coords: p.coords + count,
+        runs: p.runs + 1,
+        next: p.next + count * coords::stride_of(h.z, h.m),
     }
 }
 
 // A count, and as many coordinates.
+#[tactic(auto, using(crate::proofs::Runs::fills_line))]
 fn fill_line(s: &[u8], h: WkbHeader, p: Progress, floats: &mut [f64], table: &mut [u32]) -> Progress
     requires { ReadyToFill (line_runs h s.now p.next) p (length floats.old) (length table.old) }
     ensures { Filled (line_runs h s.now p.next) p floats.old table.old floats.new table.new result }
 {
-    let at = p.next;
-    let n = u32_at(s, at, h.little);
-    let q = Progress {
-        coords: p.coords,
-        runs: p.runs,
-        next: at + 4,
+    let n = u32_at(s, p.next, h.little);
+    let first = Progress {
+        next: p.next + 4,
+        ..p
     };
-    fill_run(s, h, n, q, floats, table)
+    fill_run(s, h, n, first, floats, table)
 }
 
 // A count of rings, and as many rings.
+#[tactic(auto, using(crate::proofs::Turns::rings_inside))]
 fn fill_rings(
     s: &[u8],
     h: WkbHeader,
@@ -178,22 +128,21 @@ fn fill_rings(
     requires { ReadyToFill (rings_at_runs h s.now p.next) p (length floats.old) (length table.old) }
     ensures { Filled (rings_at_runs h s.now p.next) p floats.old table.old floats.new table.new result }
 {
-    let at = p.next;
-    let mut left = u32_at(s, at, h.little);
+    let n = u32_at(s, p.next, h.little);
     let mut place = Progress {
-        coords: p.coords,
-        runs: p.runs,
-        next: at + 4,
+        next: p.next + 4,
+        ..p
     };
-    while 0 < left {
+    for _ in 0..n {
         place = fill_line(s, h, place, floats, table);
-        left -= 1;
     }
     place
 }
 
-// A count of members, and as many geometries, with so many levels left.
+// A count of members, and as many geometries, with so many levels left. A loop of its own beside that of the rings, not
+// one over a closure: the geometry reader calls the reader of member lists, and that one calls it (document 01).
 #[cycle(fill_geometry_fill_members)]
+#[tactic(auto, using(crate::proofs::Turns::members_inside))]
 fn fill_members(
     s: &[u8],
     little: bool,
@@ -205,22 +154,20 @@ fn fill_members(
     requires { ReadyToFill (members_at_runs levels little s.now p.next) p (length floats.old) (length table.old) }
     ensures { Filled (members_at_runs levels little s.now p.next) p floats.old table.old floats.new table.new result }
 {
-    let at = p.next;
-    let mut left = u32_at(s, at, little);
+    let n = u32_at(s, p.next, little);
     let mut place = Progress {
-        coords: p.coords,
-        runs: p.runs,
-        next: at + 4,
+        next: p.next + 4,
+        ..p
     };
-    while 0 < left {
+    for _ in 0..n {
         place = fill_geometry(s, place, levels, floats, table);
-        left -= 1;
     }
     place
 }
 
-// The geometry at the next position, with so many levels left.
+// The geometry at the next position, with so many levels left: the checking pass has refused nothing of it.
 #[cycle(fill_geometry_fill_members)]
+#[tactic(auto, using(crate::proofs::Geometries::fills_content))]
 fn fill_geometry(
     s: &[u8],
     p: Progress,
@@ -231,41 +178,28 @@ fn fill_geometry(
     requires { ReadyToFill (walk_runs levels s.now p.next) p (length floats.old) (length table.old) }
     ensures { Filled (walk_runs levels s.now p.next) p floats.old table.old floats.new table.new result }
 {
-    if levels == 0 {
-        return p;
-    }
-    let at = p.next;
-    match coords::read_header(s, at) {
-        ParsedHeader::Refused(_) => p,
-        ParsedHeader::Read(h) => {
-            let kind = h.kind;
-            let q = Progress {
-                coords: p.coords,
-                runs: p.runs,
-                next: h.body,
-            };
-            match kind {
-                1 => fill_point(s, h, q, floats, table),
-                2 => fill_line(s, h, q, floats, table),
-                3 | 17 => fill_rings(s, h, q, floats, table),
-                4..=7 | 15 | 16 => fill_members(s, h.little, q, levels - 1, floats, table),
-                _ => p,
-            }
+    let h = coords::read_header(s, p.next).unwrap();
+    let content = Progress { next: h.body, ..p };
+    match GeometryClass::try_from(h.kind).unwrap() {
+        GeometryClass::Point => fill_run(s, h, 1, content, floats, table),
+        GeometryClass::Line => fill_line(s, h, content, floats, table),
+        GeometryClass::Polygon => fill_rings(s, h, content, floats, table),
+        GeometryClass::Collection => {
+            fill_members(s, h.little, content, levels - 1, floats, table)
         }
     }
 }
 
 // Whether lent memory of these lengths is too small for so many coordinates and runs.
+#[tactic(auto, using(crate::proofs::Laws::floats_short, crate::proofs::Laws::numbers_short))]
 pub fn too_small(coords: usize, runs: usize, floats: usize, numbers: usize) -> bool
     ensures { result ≡ too_small_for coords runs floats numbers }
 {
-    if floats / FLOATS_PER_COORDINATE < coords {
-        return true;
-    }
-    numbers / NUMBERS_PER_RUN < runs
+    floats / FLOATS_PER_COORDINATE < coords || numbers / NUMBERS_PER_RUN < runs
 }
 
 // The geometry at a position, as the top, into lent memory that has room for it.
+#[tactic(auto, using(crate::proofs::Filled::room_is_ready))]
 pub fn fill(s: &[u8], at: usize, floats: &mut [f64], table: &mut [u32])
     requires { Room (walk_of all_levels s.now at) (length floats.old) (length table.old) }
     ensures { RunsWritten (walked_runs (walk_of all_levels s.now at)) floats.old table.old floats.new table.new }

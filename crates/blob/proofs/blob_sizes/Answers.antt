@@ -1,17 +1,10 @@
--- `blob::blob_sizes` meets its contract. Assumes nothing.
-use native.Mathlib.Omega.{arith}
-use Rattle.blob.proofs.Steps.{operand_refused, operand_is}
-use Rattle.blob.proofs.Outcome.{sizes_refused, counts_fit, sizes_lent}
+-- `blob::blob_sizes` refuses as the bytes' checks do. Assumes nothing.
+use mathlib.Core.Path.{sym, ◌∙◌}
+use Rattle.std.proofs.lemmas.Result.{err_from_is_err_and}
+use Rattle.blob.proofs.Outcome.{sizes_refused}
 use Rattle.blob.proofs.blob_sizes.Goals as goal
 
-pub overflow_mul-result : goal.overflow_mul-result
-overflow_mul-result c = let fit = counts_fit c.args.s.now _ (operand_is c.args.s.now _ _ _ c.check_bytes.ensures _ c.in-Read.is) in omega arith
-
-pub overflow_mul-result-in-Read : goal.overflow_mul-result-in-Read
-overflow_mul-result-in-Read c = let fit = counts_fit c.args.s.now _ (operand_is c.args.s.now _ _ _ c.check_bytes.ensures _ c.in-Read.is) in omega arith
-
-pub returns-in-Refused : goal.returns-in-Refused
-returns-in-Refused c = sizes_refused c.args.s.now _ (operand_refused c.args.s.now _ _ _ c.check_bytes.ensures _ c.in-Refused.is)
-
-pub returns-in-Read : goal.returns-in-Read
-returns-in-Read c = sizes_lent c.args.s.now _ (operand_is c.args.s.now _ _ _ c.check_bytes.ensures _ c.in-Read.is)
+pub returns-in_err-o : goal.returns-in_err-o
+returns-in_err-o c =
+    let p = err_from_is_err_and c.from_residual.result c.from_residual.ensures.1 in
+    rw (p.1, p.2) (sym (sizes_refused c.args.s.now _ (sym c.check_bytes.ensures ∙ c.in_err-o.was)))

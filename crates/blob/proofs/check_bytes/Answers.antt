@@ -1,13 +1,20 @@
--- `blob::check_bytes` meets its contract. Assumes nothing.
-use Rattle.blob.proofs.Steps.{header_refused, header_found}
-use Rattle.blob.proofs.Order.{by_header, by_walk}
+-- `blob::check_bytes` refuses as the header does, and else answers as the walk does. Assumes nothing.
+use mathlib.Core.Path.{sym, ◌∙◌}
+use Rattle.std.proofs.lemmas.Result.{err_from_is_err_and}
+use Rattle.refusals.specs.declared.Side.TheVariants.{First}
+use Rattle.refusals.proofs.Sides.{side_first, side_second}
+use Rattle.gpb.specs.Header.{geometry_start, header_checks}
+use Rattle.coords.specs.Refusals.{walk_checks}
+use Rattle.blob.specs.Blob.{bytes_checks}
+use Rattle.blob.specs.Inner.{top_header_of, operand_of}
 use Rattle.blob.proofs.check_bytes.Goals as goal
 
-pub read_walk-requires : goal.read_walk-requires
-read_walk-requires c = (header_found c.args.s.now _ _ _ c.read_header.ensures _ c.in-Found.is).1
+pub returns-in_err-top : goal.returns-in_err-top
+unfolding bytes_checks
+returns-in_err-top c =
+    let p = err_from_is_err_and c.from_residual.result c.from_residual.ensures.1 in
+    rw (p.1, p.2) (sym (side_first First (header_checks c.args.s.now) (top_header_of c.args.s.now) (operand_of c.args.s.now) (walk_checks c.args.s.now (geometry_start c.args.s.now)) _ (sym c.read_header.ensures ∙ c.in_err-top.was)))
 
-pub returns-in-Refused : goal.returns-in-Refused
-returns-in-Refused c = by_header c.args.s.now _ (header_refused c.args.s.now _ _ _ c.read_header.ensures _ c.in-Refused.is)
-
-pub returns-in-Found : goal.returns-in-Found
-returns-in-Found c = by_walk c.args.s.now _ (header_found c.args.s.now _ _ _ c.read_header.ensures _ c.in-Found.is).0 c.read_walk.ensures
+pub returns : goal.returns
+unfolding bytes_checks
+returns c = c.read_walk.ensures ∙ sym (side_second First (header_checks c.args.s.now) (top_header_of c.args.s.now) (operand_of c.args.s.now) (walk_checks c.args.s.now (geometry_start c.args.s.now)) _ (sym c.read_header.ensures ∙ c.in_ok-top.was))

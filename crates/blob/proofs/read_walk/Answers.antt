@@ -1,9 +1,8 @@
--- `blob::read_walk` meets its contract. Assumes nothing.
-use Rattle.blob.proofs.Steps.{walk_refused, walk_read}
+-- `blob::read_walk` refuses as the checking pass does, of its side. Assumes nothing.
+use mathlib.Core.Path.{sym, ap, ◌∙◌}
+use Rattle.std.specs.Prelude.{Err}
+use Rattle.blob.proofs.Steps.{walk_refused}
 use Rattle.blob.proofs.read_walk.Goals as goal
 
-pub returns-in-Refused : goal.returns-in-Refused
-returns-in-Refused c = walk_refused c.args.s.now _ _ c.requires _ c.count.ensures _ c.in-Refused.is
-
-pub returns-in-Accepted : goal.returns-in-Accepted
-returns-in-Accepted c = walk_read c.args.s.now _ _ c.requires _ c.count.ensures _ _ _ _ c.in-Accepted.is
+pub returns-in-Err : goal.returns-in-Err
+returns-in-Err c = ap Err c.of.ensures ∙ sym (walk_refused c.args.s.now c.args.top c.args.side c.requires _ (sym c.count.ensures ∙ c.in-Err.is))

@@ -46,7 +46,7 @@ loop-r-preserved-then-j-here c = let args = c.args in
     let h : loop.r < run_count args.table.now = omega (arith, c.run_count-runs.ensures) in
     let k : loop.j < item_count_in args.from.class args.table.now loop.r = omega (arith, c.items_in-here.ensures) in (
       loop.invariant.0,
-      turn_past args.from.class args.table.now args.floats.now loop.r loop.at loop.j loop.left h k (omega arith) (foldl cover_item) c.item_at.ensures (λ l. rw (c.cover-all.ensures, c.box_of.ensures)) ∙ loop.invariant.1,
+      turn_past args.from.class args.table.now args.floats.now loop.r loop.at loop.j loop.left h k (omega arith) (foldl cover_item) c.item_at.ensures (λ l. rw (c.cover-all.ensures, c.bounds.ensures)) ∙ loop.invariant.1,
       drop_past args.from.class args.table.now args.floats.now loop.r loop.at loop.j loop.left h k (omega arith) ∙ loop.invariant.2,
     )
 

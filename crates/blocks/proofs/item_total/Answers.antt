@@ -5,27 +5,18 @@ use Rattle.parts.specs.Stored.{run_count, Laid}
 use Rattle.blocks.proofs.Spans.{total_next, total_end, total_at_most}
 use Rattle.blocks.proofs.item_total.Goals as goal
 
-pub items_in-total-requires : goal.items_in-total-requires
-items_in-total-requires c = omega (arith, c.run_count-runs.ensures)
-
 pub overflow_add-total : goal.overflow_add-total
 unfolding Laid
 overflow_add-total c = let args = c.args in
     let loop = c.loop-r in
-    let h : loop.r < run_count args.table.now = omega (arith, c.run_count-runs.ensures) in
+    let h : loop.r < run_count args.table.now = omega (arith, c.run_count-r-end.ensures) in
     omega (arith, total_next args.class args.table.now loop.r h, total_at_most args.class args.table.now, c.items_in-total.ensures, c.requires)
-
-pub overflow_add-r : goal.overflow_add-r
-overflow_add-r c = omega (arith, c.run_count-runs.ensures)
-
-pub loop-r-smaller : goal.loop-r-smaller
-loop-r-smaller c = omega (arith, c.run_count-runs.ensures)
 
 pub loop-r-preserved : goal.loop-r-preserved
 loop-r-preserved c = let args = c.args in
     let loop = c.loop-r in
-    let h : loop.r < run_count args.table.now = omega (arith, c.run_count-runs.ensures) in
+    let h : loop.r < run_count args.table.now = omega (arith, c.run_count-r-end.ensures) in
     omega (arith, total_next args.class args.table.now loop.r h, c.items_in-total.ensures)
 
 pub returns : goal.returns
-returns c = omega (arith, total_end c.args.class c.args.table.now c.loop-r.r (omega (arith, c.run_count-runs.ensures)))
+returns c = omega (arith, total_end c.args.class c.args.table.now c.loop-r.r (omega (arith, c.run_count-r-end.ensures)))

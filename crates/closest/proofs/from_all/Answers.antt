@@ -1,21 +1,13 @@
 -- `closest::from_all` meets its contract. Assumes nothing.
-use mathlib.Core.Path.{refl}
-use native.Mathlib.Omega.{arith}
-use Rattle.closest.proofs.Indexed.{lists_indexed, listed_some, listed_nothing}
-use borrow.Author.Rules.{rules}
+use mathlib.Core.Path.{sym, ◌∙◌}
+use Rattle.closest.proofs.Listed.{listed_some, listed_nothing}
 use Rattle.closest.proofs.from_all.Goals as goal
 
-pub returns-then-rows-eq0 : goal.returns-then-rows-eq0
-returns-then-rows-eq0 c = rw (listed_nothing _ _ _ _ _ c.list_all-list.ensures _ c.if-rows-eq0.true) c.none_yet.ensures
+pub returns-then-list-gt-LISTED : goal.returns-then-list-gt-LISTED
+returns-then-list-gt-LISTED c = rw (listed_some _ _ _ (sym c.list_all-list.ensures.box ∙ c.in-Some.is)) c.sweep_many.ensures
 
-pub sweep_classes-requires-clause-laid : goal.sweep_classes-requires-clause-laid
-sweep_classes-requires-clause-laid c = c.requires.laid
+pub returns-in-None : goal.returns-in-None
+returns-in-None c = rw (listed_nothing _ _ (sym c.list_all-list.ensures.box ∙ c.in-None.is)) c.none.ensures
 
-pub sweep_classes-requires-clause-indexed : goal.sweep_classes-requires-clause-indexed
-sweep_classes-requires-clause-indexed c = lists_indexed _ _ _ _ _ c.list_all-list.ensures _ refl (omega arith) (search rules) (search rules)
-
-pub returns-then-rows-le-LISTED : goal.returns-then-rows-le-LISTED
-returns-then-rows-le-LISTED c = rw (listed_some _ _ _ _ _ c.list_all-list.ensures _ (omega arith)) c.sweep_classes.ensures
-
-pub returns : goal.returns
-returns c = rw (listed_some _ _ _ _ _ c.list_all-list.ensures _ (omega arith)) c.sweep_many.ensures
+pub returns-else-list-gt-LISTED : goal.returns-else-list-gt-LISTED
+returns-else-list-gt-LISTED c = rw (listed_some _ _ _ (sym c.list_all-list.ensures.box ∙ c.in-Some.is)) c.sweep_all.ensures

@@ -1,17 +1,10 @@
 -- `closest_rule2::with_run` meets its contract. The invariant: what is left of the run's items, done from the best so far, gives the whole. Assumes nothing.
 use mathlib.Core.Path.{◌≡◌}
-use Prim.Native.Nat.{◌-◌, ◌≤◌}
 use Rattle.parts.specs.Stored.{points_from}
-use Rattle.extremes.specs.InnerBest.{best_of, Sound}
-use Rattle.items.specs.Inner.{item_of, items_by, item_count}
+use Rattle.items.specs.Inner.{items_by}
 use Rattle.items.proofs.Turns.{items_left}
 use Rattle.crossings.specs.Closest.{with_each_by_rule2}
 use Rattle.closest_rule2.proofs.with_run.Given as goal
 
 abbrev pub invariant-loop-j : goal.invariant-loop-j
-invariant-loop-j l = (l.j ≤ item_count l.class l.n)
-    × Sound l.seen
-    × (with_each_by_rule2 (item_of l.a) (best_of l.seen) (items_left l.class l.floats l.at l.n l.j) ≡ with_each_by_rule2 (item_of l.a) (best_of l.initial.seen) (items_by l.class (points_from l.floats l.at l.n)))
-
-abbrev pub decreases-loop-j : goal.decreases-loop-j
-decreases-loop-j l = item_count l.class l.n - l.j
+invariant-loop-j l = with_each_by_rule2 l.probe.item l.seen (items_left l.run.class l.floats l.run.at l.run.n l.j) ≡ with_each_by_rule2 l.probe.item l.initial.seen (items_by l.run.class (points_from l.floats l.run.at l.run.n))

@@ -1,16 +1,14 @@
--- `coords::count_rings` meets its contract. Assumes nothing.
-use mathlib.Core.Path.{◌≡◌}
-use Prim.Native.Nat.{◌*◌, ◌≤◌}
-use Rattle.coords.specs.Walk.{times}
-use Rattle.coords.specs.Inner.{line_runs}
-use mathlib.Core.List.{[], ◌++◌}
+-- What the loop over the rings keeps. Assumes nothing.
+use Rattle.std.proofs.Common.{◌≡◌}
+use Rattle.coords.specs.Inner.{line_runs, rings_at_runs}
 use Rattle.coords.specs.Counts.{run_counts}
-use Rattle.coords.proofs.Loops.{plus}
+use Rattle.coords.proofs.Loops.{counted}
+use Rattle.coords.proofs.Inside.{Fits}
 use Rattle.coords.proofs.count_rings.Given as goal
 
-abbrev pub invariant-loop-left : goal.invariant-loop-left
-invariant-loop-left l =
-    (run_counts (times ◌++◌ [] (line_runs l.h l.s) l.initial.left l.initial.next) ≡ plus l.coords l.runs l.others (run_counts (times ◌++◌ [] (line_runs l.h l.s) l.left l.next))) × (16 * l.coords ≤ l.next) × (l.runs ≤ l.coords) × (l.others ≤ l.runs)
-
-abbrev pub decreases-loop-left : goal.decreases-loop-left
-decreases-loop-left l = l.left
+abbrev pub invariant-loop : goal.invariant-loop
+invariant-loop l =
+    record {
+      counts : run_counts (rings_at_runs l.h l.s l.at) ≡ counted (line_runs l.h l.s) l.n l.counter l.all;
+      fits : Fits 0 l.all;
+    }

@@ -9,14 +9,14 @@ use Rattle.dig_matcher.proofs.Matches.{none_there, both_there, below_zero, by_an
 use Rattle.dig_matcher.proofs.match_pair.Goals as goal
 
 pub returns-then-missing : goal.returns-then-missing
-returns-then-missing c = sym (none_there _ _ _ _ _ (sym c.is_missing-missing.ensures ∙ c.if-missing.true))
+returns-then-missing c = rw c.of.ensures (sym (none_there _ _ _ _ _ (sym c.is_missing-missing.ensures ∙ c.if-missing.true)))
 
 pub returns-then-below : goal.returns-then-below
 unfolding of_bits
 returns-then-below c =
     let not_missing : c.is_missing-missing.result ≡ false = search rules in
     let there = both_there _ _ (sym c.is_missing-missing.ensures ∙ not_missing) in
-    sym (below_zero _ _ _ _ _ there.0 there.1 c.if-below.true)
+    rw c.of-then-below.ensures (sym (below_zero _ _ _ _ _ there.0 there.1 c.if-below.true))
 
 pub blob_at-requires : goal.blob_at-requires
 blob_at-requires c = let there = both_there c.args.a c.args.b (sym c.is_missing-missing.ensures ∙ c.if-missing.false) in

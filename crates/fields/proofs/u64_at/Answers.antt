@@ -1,11 +1,15 @@
 -- `fields::u64_at` meets its contract. Assumes nothing.
-use Rattle.fields.specs.Fields.{u64_at}
+use mathlib.Core.Path.{◌∙◌}
+use Rattle.std.proofs.lemmas.Result.{MatchResult-at_ok}
+use Rattle.fields.proofs.Chunks.{u64_little, u64_big}
 use Rattle.fields.proofs.u64_at.Goals as goal
 
 pub returns-then-little : goal.returns-then-little
-unfolding u64_at
-returns-then-little c = cc
+returns-then-little c =
+    let part = MatchResult-at_ok _ _ _ c.unwrap-bytes.ensures c.try_into.ensures.1 in
+    rw c.if-little.true (c.from_le_bytes.ensures ∙ u64_little c.args.s.now c.unwrap-bytes.result c.args.at part.same)
 
 pub returns-else-little : goal.returns-else-little
-unfolding u64_at
-returns-else-little c = cc
+returns-else-little c =
+    let part = MatchResult-at_ok _ _ _ c.unwrap-bytes.ensures c.try_into.ensures.1 in
+    rw c.if-little.false (c.from_be_bytes.ensures ∙ u64_big c.args.s.now c.unwrap-bytes.result c.args.at part.same)

@@ -2,8 +2,5 @@
 use Rattle.ieee754.proofs.DigitLoop.{Searching}
 use Rattle.ieee754.proofs.root_digits.Given as goal
 
-abbrev pub invariant-loop-left : goal.invariant-loop-left
-invariant-loop-left l = Searching l.m l.q l.rest l.radicand l.left l.unit
-
-abbrev pub decreases-loop-left : goal.decreases-loop-left
-decreases-loop-left l = l.left
+abbrev pub invariant-loop-turns : goal.invariant-loop-turns
+invariant-loop-turns l = Searching l.m l.q l.rest l.radicand l.turns

@@ -3,6 +3,4 @@ use Rattle.ieee754.proofs.Normalization.{root_rounds}
 use Rattle.ieee754.proofs.root_pattern.Goals as goal
 
 pub returns : goal.returns
-returns c = let n = c.radicand_of-n in
-    let d = c.integer_root-d in
-    rw c.rounded.ensures (root_rounds _ _ _ _ _ n.ensures d.ensures)
+returns c = rw c.rounded.ensures (root_rounds _ _ _ _ _ c.radicand_of-n.ensures c.integer_root.ensures)

@@ -1,12 +1,7 @@
 -- `out_of_range` meets its contract. Assumes nothing.
-use Rattle.interpolation.proofs.Cases.{below_range, above_range, in_range}
+use Rattle.interpolation.proofs.Cases.{below_range, within_range}
 use Rattle.interpolation.proofs.out_of_range.Goals as goal
+use Rattle.interpolation.proofs.out_of_range.Goals.{then-fraction, else-fraction}
 
-pub returns-then-fraction-2 : goal.returns-then-fraction-2
-returns-then-fraction-2 c = in_range c.args.fraction c.if-fraction.true c.if-fraction-2.true
-
-pub returns-else-fraction-2 : goal.returns-else-fraction-2
-returns-else-fraction-2 c = above_range c.args.fraction c.if-fraction.true c.if-fraction-2.false
-
-pub returns-else-fraction : goal.returns-else-fraction
-returns-else-fraction c = below_range c.args.fraction c.if-fraction.false
+pub returns : goal.returns
+returns c = elim c.if-fraction.branch [ then-fraction w ↦ rw w.result-is (within_range c.args.fraction w.if-fraction.true) | else-fraction w ↦ rw (w.result-is, w.if-fraction.false) (below_range c.args.fraction w.if-fraction.false) ]

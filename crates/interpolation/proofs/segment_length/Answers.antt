@@ -4,4 +4,4 @@ use Rattle.interpolation.proofs.segment_length.Goals as goal
 
 pub returns : goal.returns
 unfolding length_of
-returns c = rw (← c.difference.ensures, ← c.norm.ensures)
+returns c = rw (← c.sub.ensures, ← c.norm.ensures)

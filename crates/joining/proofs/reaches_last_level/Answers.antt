@@ -1,9 +1,7 @@
 -- `joining::reaches_last_level` meets its contract. Assumes nothing.
-use Rattle.joining.proofs.Own.{reaches, reaches_not}
+use mathlib.Core.Path.{◌∙◌}
+use Rattle.joining.proofs.Own.{last_level}
 use Rattle.joining.proofs.reaches_last_level.Goals as goal
 
-pub returns-in-Refused : goal.returns-in-Refused
-returns-in-Refused c = reaches c.args.s.now c.args.at c.requires.at_value c.requires.s_value _ c.count_geometry.ensures _ c.in-Refused.is
-
-pub returns-in-Accepted : goal.returns-in-Accepted
-returns-in-Accepted c = reaches_not c.args.s.now c.args.at c.requires.at_value c.requires.s_value _ c.count_geometry.ensures _ _ _ _ c.in-Accepted.is
+pub returns : goal.returns
+returns c = c.is_err.ensures.value ∙ last_level c.args.s.now c.args.at c.requires.at_value c.requires.s_value c.count_geometry.ensures

@@ -1,25 +1,16 @@
--- `surface::range_in` meets its contract. Assumes nothing.
-use Rattle.surface.proofs.InRow.{patch_ends, past_refused, past_nothing, before_refused, itself_refused, rest_refused, all_scanned}
-use Rattle.surface.specs.Patches.{patch_at, patch_value}
+-- `surface::range_in` refuses as the patch itself does, or one after it. Assumes nothing.
 use mathlib.Core.Path.{sym, ◌∙◌}
+use Rattle.std.proofs.lemmas.Result.{err_from_is_err_and}
+use Rattle.surface.specs.Patches.{patch_at}
+use Rattle.surface.proofs.InRow.{patch_ends, itself_refused, rest_refused}
 use Rattle.surface.proofs.range_in.Goals as goal
 
-pub returns-in-Refused : goal.returns-in-Refused
-returns-in-Refused c = c.refuse.ensures ∙ sym (past_refused (patch_at c.args.s.now) _ _ _ _ c.if-count-n.true (sym c.scan_patches.ensures ∙ c.in-Refused.is))
+pub returns-in_err-end : goal.returns-in_err-end
+returns-in_err-end c =
+    let p = err_from_is_err_and c.from_residual-in_err-end.result c.from_residual-in_err-end.ensures.1 in
+    rw (p.1, p.2) (sym (itself_refused (patch_at c.args.s.now) _ _ _ _ _ c.if-count-n.false (sym c.scan_patches-2.ensures ∙ c.in_ok-start.was) (sym c.scan_patch.ensures ∙ c.in_err-end.was)))
 
-pub returns-in-Ends : goal.returns-in-Ends
-unfolding patch_value
-returns-in-Ends c = sym (past_nothing (patch_at c.args.s.now) _ _ _ _ c.if-count-n.true (sym c.scan_patches.ensures ∙ c.in-Ends.is))
-
-pub returns-in-Refused-scan_patches : goal.returns-in-Refused-scan_patches
-returns-in-Refused-scan_patches c = c.refuse-in-Refused-scan_patches.ensures ∙ sym (before_refused (patch_at c.args.s.now) _ _ _ _ c.if-count-n.false (sym c.scan_patches-2.ensures ∙ c.in-Refused-scan_patches.is))
-
-pub returns-in-Refused-scan_patch : goal.returns-in-Refused-scan_patch
-returns-in-Refused-scan_patch c = c.refuse-in-Refused-scan_patch.ensures ∙ sym (itself_refused (patch_at c.args.s.now) _ _ _ _ _ c.if-count-n.false (sym c.scan_patches-2.ensures ∙ c.in-Ends-scan_patches.is) (sym c.scan_patch.ensures ∙ c.in-Refused-scan_patch.is))
-
-pub returns-in-Refused-scan_patches-2 : goal.returns-in-Refused-scan_patches-2
-returns-in-Refused-scan_patches-2 c = c.refuse-in-Refused-scan_patches-2.ensures ∙ sym (rest_refused (patch_at c.args.s.now) _ _ _ _ _ _ _ c.if-count-n.false (sym c.scan_patches-2.ensures ∙ c.in-Ends-scan_patches.is) (patch_ends _ _ _ (sym c.scan_patch.ensures ∙ c.in-Ends-scan_patch.is)) (sym c.scan_patches-in-Ends-scan_patch.ensures ∙ c.in-Refused-scan_patches-2.is))
-
-pub returns-in-Ends-scan_patches-2 : goal.returns-in-Ends-scan_patches-2
-unfolding patch_value
-returns-in-Ends-scan_patches-2 c = sym (all_scanned (patch_at c.args.s.now) _ _ _ _ _ _ _ c.if-count-n.false (sym c.scan_patches-2.ensures ∙ c.in-Ends-scan_patches.is) (patch_ends _ _ _ (sym c.scan_patch.ensures ∙ c.in-Ends-scan_patch.is)) (sym c.scan_patches-in-Ends-scan_patch.ensures ∙ c.in-Ends-scan_patches-2.is))
+pub returns-in_err-scan_patches-2 : goal.returns-in_err-scan_patches-2
+returns-in_err-scan_patches-2 c =
+    let p = err_from_is_err_and c.from_residual-in_err-scan_patches-2.result c.from_residual-in_err-scan_patches-2.ensures.1 in
+    rw (p.1, p.2) (sym (rest_refused (patch_at c.args.s.now) _ _ _ _ _ _ _ c.if-count-n.false (sym c.scan_patches-2.ensures ∙ c.in_ok-start.was) (patch_ends _ _ _ (sym c.scan_patch.ensures ∙ c.in_ok-end.was)) (sym c.scan_patches-3.ensures ∙ c.in_err-scan_patches-2.was)))

@@ -1,17 +1,11 @@
--- `surface::scan_patches` meets its contract. Assumes nothing.
-use Rattle.surface.proofs.Scans.{turn_ends, turn_refused, turns_end}
+-- `surface::scan_patches` refuses as a patch does. Assumes nothing.
+use mathlib.Core.Path.{sym, ◌∙◌}
+use Rattle.std.proofs.lemmas.Result.{err_from_is_err_and}
 use Rattle.surface.specs.Patches.{patch_at}
-use mathlib.Core.Path.{refl, sym, ◌∙◌}
+use Rattle.surface.proofs.Scans.{turn_refused}
 use Rattle.surface.proofs.scan_patches.Goals as goal
 
-pub loop-left-init : goal.loop-left-init
-loop-left-init c = refl
-
-pub returns-in-Refused : goal.returns-in-Refused
-returns-in-Refused c = sym (c.loop-left.invariant ∙ turn_refused (patch_at c.args.s.now) _ _ _ c.loop-left-test.true (sym c.scan_patch.ensures ∙ c.in-Refused.is))
-
-pub loop-left-preserved : goal.loop-left-preserved
-loop-left-preserved c = c.loop-left.invariant ∙ turn_ends (patch_at c.args.s.now) _ _ _ c.loop-left-test.true (sym c.scan_patch.ensures ∙ c.in-Ends.is)
-
-pub returns : goal.returns
-returns c = sym (c.loop-left.invariant ∙ turns_end (patch_at c.args.s.now) _ _ c.loop-left-test.false)
+pub returns-in_err-next : goal.returns-in_err-next
+returns-in_err-next c =
+    let p = err_from_is_err_and c.from_residual.result c.from_residual.ensures.1 in
+    rw (p.1, p.2) (sym (turn_refused (patch_at c.args.s.now) _ _ _ _ _ c.loop-test.true c.loop.invariant (sym c.scan_patch.ensures ∙ c.in_err-next.was)))

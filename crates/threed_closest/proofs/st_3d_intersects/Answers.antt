@@ -2,10 +2,9 @@
 use mathlib.Core.Path.{ap, ◌∙◌}
 use Rattle.outcomes.specs.Operations.{touching_value, intersects}
 use Rattle.outcomes.specs.Inner.{decided_report}
-use Rattle.reading.specs.Inner.{asked_checks}
 use Rattle.outcomes.proofs.Answered.{told, swept_touching}
 use Rattle.threed_closest.proofs.st_3d_intersects.Goals as goal
 
 pub returns : goal.returns
-unfolding intersects asked_checks
-returns c = record { whole_outcome = told c.closest_pair-pair.ensures touching_value (c.touching.ensures ∙ ap (decided_report _) c.measured-answer.ensures ∙ swept_touching _) }
+unfolding intersects
+returns c = record { whole_outcome = told c.closest_pair.ensures touching_value (c.touching.ensures ∙ ap (decided_report _) c.from-answer.ensures ∙ swept_touching _) }

@@ -1,33 +1,27 @@
 -- `threed_farthest::farthest_pair` meets its contract. Assumes nothing.
-use mathlib.Core.Path.{◌∙◌}
-use Rattle.outcomes.specs.Operations.{farthest_pair}
-use Rattle.reading.proofs.Steps.{swept_refused, sides, swept_found}
+use mathlib.Core.Path.{ap, ◌∙◌}
+use Rattle.outcomes.specs.Inner.{swept_of}
+use Rattle.reading.proofs.Steps.{sides, swept_found}
 use Rattle.threed_farthest.proofs.farthest_pair.Goals as goal
 
-pub slice_bounds-farthest-end : goal.slice_bounds-farthest-end
-slice_bounds-farthest-end c = let s = sides c.read_both.ensures c.in-Stored.is in s.0.fits
+pub slice_bounds-new-end : goal.slice_bounds-new-end
+slice_bounds-new-end c = let s = sides c.read_both.ensures c.in_ok-read.was in s.0.fits
 
-pub slice_bounds-farthest-end-in-Stored : goal.slice_bounds-farthest-end-in-Stored
-slice_bounds-farthest-end-in-Stored c = let s = sides c.read_both.ensures c.in-Stored.is in s.0.long
+pub slice_bounds-new-end-2 : goal.slice_bounds-new-end-2
+slice_bounds-new-end-2 c = let s = sides c.read_both.ensures c.in_ok-read.was in s.0.long
 
-pub slice_bounds-farthest-end-in-Stored-2 : goal.slice_bounds-farthest-end-in-Stored-2
-slice_bounds-farthest-end-in-Stored-2 c = let s = sides c.read_both.ensures c.in-Stored.is in s.1.fits
+pub new-first-requires : goal.new-first-requires
+new-first-requires c = let s = sides c.read_both.ensures c.in_ok-read.was in s.0.laid
 
-pub slice_bounds-farthest-end-in-Stored-3 : goal.slice_bounds-farthest-end-in-Stored-3
-slice_bounds-farthest-end-in-Stored-3 c = let s = sides c.read_both.ensures c.in-Stored.is in s.1.long
+pub slice_bounds-new-end-3 : goal.slice_bounds-new-end-3
+slice_bounds-new-end-3 c = let s = sides c.read_both.ensures c.in_ok-read.was in s.1.fits
 
-pub farthest-found-requires : goal.farthest-found-requires
-farthest-found-requires c =
-    let s = sides c.read_both.ensures c.in-Stored.is in
-    record {
-      laid = s.0.laid;
-      laid_2 = s.1.laid;
-    }
+pub slice_bounds-new-end-4 : goal.slice_bounds-new-end-4
+slice_bounds-new-end-4 c = let s = sides c.read_both.ensures c.in_ok-read.was in s.1.long
 
-pub returns-in-Refused : goal.returns-in-Refused
-returns-in-Refused c = swept_refused c.read_both.ensures _ _ c.in-Refused.is
+pub new-second-requires : goal.new-second-requires
+new-second-requires c = let s = sides c.read_both.ensures c.in_ok-read.was in s.1.laid
 
-pub returns-in-Stored : goal.returns-in-Stored
-unfolding farthest_pair
-returns-in-Stored c = let s = sides c.read_both.ensures c.in-Stored.is in
-    swept_found c.read_both.ensures c.in-Stored.is _ (c.farthest-found.ensures ∙ rw (s.0.vertices, s.1.vertices)) c.with_srid.ensures
+pub returns : goal.returns
+returns c = let s = sides c.read_both.ensures c.in_ok-read.was in
+    swept_found c.read_both.ensures c.in_ok-read.was _ (c.with_srid.ensures ∙ ap (swept_of _) (c.farthest-found.ensures ∙ rw (c.new-first.ensures, c.new-second.ensures, s.0.vertices, s.1.vertices)))

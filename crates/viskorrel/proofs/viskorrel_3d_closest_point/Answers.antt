@@ -2,26 +2,5 @@
 use Rattle.replies.proofs.Returned.{as_returned}
 use Rattle.viskorrel.proofs.viskorrel_3d_closest_point.Goals as goal
 
-pub st_3d_closest_point-requires : goal.st_3d_closest_point-requires
-st_3d_closest_point-requires c = tt
-
-pub reply_to_written-requires : goal.reply_to_written-requires
-reply_to_written-requires c = tt
-
-pub shape_of-floats1 : goal.shape_of-floats1
-shape_of-floats1 c = c.st_3d_closest_point.auto.floats1
-
-pub shape_of-table1 : goal.shape_of-table1
-shape_of-table1 c = c.st_3d_closest_point.auto.table1
-
-pub shape_of-floats2 : goal.shape_of-floats2
-shape_of-floats2 c = c.st_3d_closest_point.auto.floats2
-
-pub shape_of-table2 : goal.shape_of-table2
-shape_of-table2 c = c.st_3d_closest_point.auto.table2
-
-pub shape_of-output : goal.shape_of-output
-shape_of-output c = c.st_3d_closest_point.auto.output
-
 pub returns : goal.returns
-returns c = record { whole_outcome = as_returned _ _ _ _ _ c.st_3d_closest_point.ensures.whole_outcome c.reply_to_written.ensures }
+returns c = record { whole_outcome = as_returned _ _ _ _ _ c.st_3d_closest_point.ensures.whole_outcome c.into.ensures }

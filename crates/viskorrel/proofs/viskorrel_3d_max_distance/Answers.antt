@@ -2,23 +2,5 @@
 use Rattle.replies.proofs.Returned.{as_returned}
 use Rattle.viskorrel.proofs.viskorrel_3d_max_distance.Goals as goal
 
-pub st_3d_max_distance-requires : goal.st_3d_max_distance-requires
-st_3d_max_distance-requires c = tt
-
-pub reply_to_answer-requires : goal.reply_to_answer-requires
-reply_to_answer-requires c = tt
-
-pub shape_of-floats1 : goal.shape_of-floats1
-shape_of-floats1 c = c.st_3d_max_distance.auto.floats1
-
-pub shape_of-table1 : goal.shape_of-table1
-shape_of-table1 c = c.st_3d_max_distance.auto.table1
-
-pub shape_of-floats2 : goal.shape_of-floats2
-shape_of-floats2 c = c.st_3d_max_distance.auto.floats2
-
-pub shape_of-table2 : goal.shape_of-table2
-shape_of-table2 c = c.st_3d_max_distance.auto.table2
-
 pub returns : goal.returns
-returns c = record { whole_outcome = as_returned _ _ _ _ _ c.st_3d_max_distance.ensures.whole_outcome c.reply_to_answer.ensures }
+returns c = record { whole_outcome = as_returned _ _ _ _ _ c.st_3d_max_distance.ensures.whole_outcome c.into.ensures }

@@ -5,7 +5,7 @@ use Rattle.viskorrel.proofs.viskorrel_join.Goals as goal
 pub returns : goal.returns
 returns c =
     let join = c.join.ensures in
-    let same = c.reply_to_size.ensures in
+    let same = c.into.ensures in
     record {
       whole_outcome = as_size _ _ same _ _ _ _ join.whole_outcome;
       reads_as_both = reads_reply _ _ same _ _ _ join.reads_as_both;

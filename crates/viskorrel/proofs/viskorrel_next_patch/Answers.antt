@@ -6,5 +6,5 @@ use Rattle.viskorrel.proofs.viskorrel_next_patch.Goals as goal
 
 pub returns : goal.returns
 returns c =
-    let w = (next_told _ _ _ _ (c.reply_to_patch.ensures ∙ ap patch_reply c.next_of_cursor.ensures)) in
+    let w = next_told _ _ _ _ (c.into.ensures ∙ ap patch_reply (rw (c.new.ensures.made.0, c.new.ensures.made.1, c.new.ensures.made.2) at c.range.ensures.next)) in
     record { value = w.0; patch_n = w.1 }

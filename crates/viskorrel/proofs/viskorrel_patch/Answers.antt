@@ -4,4 +4,4 @@ use Rattle.replies.specs.Replies.{patch_reply}
 use Rattle.viskorrel.proofs.viskorrel_patch.Goals as goal
 
 pub returns : goal.returns
-returns c = c.reply_to_patch.ensures ∙ ap patch_reply c.patch_range.ensures
+returns c = c.into.ensures ∙ ap patch_reply c.patch_range.ensures

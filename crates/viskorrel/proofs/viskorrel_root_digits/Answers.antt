@@ -4,6 +4,6 @@ use Rattle.viskorrel.proofs.viskorrel_root_digits.Goals as goal
 
 pub returns : goal.returns
 returns c = (
-  c.reply_to_root.ensures.0 ∙ c.root_and_digits.ensures.root,
-  c.reply_to_root.ensures.1 ∙ c.root_and_digits.ensures.digits,
+  c.into.ensures.0 ∙ c.root_and_digits.ensures.root,
+  c.into.ensures.1 ∙ c.root_and_digits.ensures.digits,
 )

@@ -13,5 +13,5 @@ returns-in-4 c = end_at c.args.tape.now c.args.at c.if-tape-at.false c.in-4.is
 
 pub returns-in_default : goal.returns-in_default
 unfolding StepAt
-returns-in_default c = let none = c.in_default.in_default-own.rest in
-    unknown_broken c.args.tape.now c.args.at c.if-tape-at.false none.0.0.0.1 none.0.0.1 none.0.1 none.1
+returns-in_default c = let rest = c.in_default.in_default-own.rest in
+    unknown_broken c.args.tape.now c.args.at c.if-tape-at.false rest.0.0.0.1 rest.0.0.1 rest.0.1 rest.1

@@ -14,15 +14,12 @@ unfolding StepAt
 returns-then-tape-start c = let said = c.u32_at-n in
     blob_broken c.args.tape.now c.args.at c.requires.at_in_bounds said.result said.ensures c.requires.at_value (omega arith) (omega arith)
 
-pub overflow_cast-result : goal.overflow_cast-result
-overflow_cast-result c = omega (arith, c.shared_slice_known-2-1.given (c.args.at + 1))
-
 pub returns : goal.returns
 unfolding StepAt
-returns c = let tape = c.args.tape.now in
+returns c = rw c.from.ensures (let tape = c.args.tape.now in
     let at = c.args.at in
     let said = c.u32_at-n in (
-      omega (arith, c.shared_slice_known-2-1.given (at + 1)),
+      omega (arith, c.type_inv.tape (at + 1)),
       has_blob tape at c.requires.at_in_bounds said.result said.ensures (omega arith),
       load_at tape at c.requires.at_in_bounds said.result said.ensures c.requires.at_value (omega arith),
-    )
+    ))

@@ -9,17 +9,11 @@ pub returns-then-tape-at-lt3 : goal.returns-then-tape-at-lt3
 unfolding StepAt
 returns-then-tape-at-lt3 c = pair_broken c.args.tape.now c.args.at c.requires.at_in_bounds c.requires.at_value (omega arith)
 
-pub overflow_cast-result : goal.overflow_cast-result
-overflow_cast-result c = omega (arith, c.shared_slice_known-1.given (c.args.at + 1))
-
-pub overflow_cast-result-2 : goal.overflow_cast-result-2
-overflow_cast-result-2 c = omega (arith, c.shared_slice_known-2-1.given (c.args.at + 2))
-
 pub returns : goal.returns
 unfolding StepAt
-returns c = let tape = c.args.tape.now in
+returns c = rw (c.from.ensures, c.from-2.ensures) (let tape = c.args.tape.now in
     let at = c.args.at in (
-      omega (arith, c.shared_slice_known-1.given (at + 1)),
-      omega (arith, c.shared_slice_known-2-1.given (at + 2)),
+      omega (arith, c.type_inv.tape (at + 1)),
+      omega (arith, c.type_inv.tape (at + 2)),
       pair_at tape at c.requires.at_in_bounds c.requires.at_value (omega arith),
-    )
+    ))

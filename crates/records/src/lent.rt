@@ -1,0 +1,120 @@
+// The memory that a call is lent: what it holds before, and whether it holds what is expected afterwards.
+ghost use Rattle.std.specs.Prelude.{◌≡◌, ◌==◌, Bool, not, IfOk, length, drop, count_by, replicate};
+ghost use Rattle.records.specs.Lent.{first_or_mark, holds_of, same_float};
+ghost use Rattle.records.specs.declared.lent.TheConstants.{FLOAT_MARK, NUMBER_MARK};
+
+use crate::number::Number;
+use crate::reader::Reader;
+use ieee754::to_pattern;
+use std::alloc::{AllocError, Global};
+
+// What memory is lent of. It holds marks before a call, so that what a call writes shows.
+pub trait Lent: Copy {
+    ghost MARK: { Self };
+
+    ghost is: { Self → Self → Bool };
+
+    // No record expects this number.
+    const MARK: Self;
+
+    fn is(self, other: Self) -> bool
+        ensures { result ≡ is self other };
+
+    ghost copies: { (x y : Self) → Self.is_clone x y → y ≡ x };
+}
+
+impl Lent for u8 {
+    ghost MARK = { 165 };
+
+    ghost is = { λ x y. x == y };
+
+    ghost copies = { λ x y e. e };
+
+    const MARK: u8 = 165;
+
+    fn is(self, other: u8) -> bool {
+        self == other
+    }
+}
+
+impl Lent for u16 {
+    ghost MARK = { 42405 };
+
+    ghost is = { λ x y. x == y };
+
+    ghost copies = { λ x y e. e };
+
+    const MARK: u16 = 42405;
+
+    fn is(self, other: u16) -> bool {
+        self == other
+    }
+}
+
+const NUMBER_MARK: u32 = 4123456789;
+
+impl Lent for u32 {
+    ghost MARK = { NUMBER_MARK };
+
+    ghost is = { λ x y. x == y };
+
+    ghost copies = { λ x y e. e };
+
+    const MARK: u32 = NUMBER_MARK;
+
+    fn is(self, other: u32) -> bool {
+        self == other
+    }
+}
+
+const FLOAT_MARK: f64 = 123456789.125;
+
+// Floats are the same by their patterns, so that a NaN is one, and -0 is not 0.
+impl Lent for f64 {
+    ghost MARK = { FLOAT_MARK };
+
+    ghost is = { same_float };
+
+    ghost copies = { λ x y e. e };
+
+    const MARK: f64 = FLOAT_MARK;
+
+    fn is(self, other: f64) -> bool {
+        to_pattern(self) == to_pattern(other)
+    }
+}
+
+// As many marks, for a call to write over.
+pub fn lend<T: Lent>(alloc: Global, n: usize) -> Result<Vec<T>, AllocError>
+    ensures { IfOk result (λ v. v.items ≡ replicate n T.MARK) }
+{
+    vec![in alloc; T::MARK; n]
+}
+
+// How many places have lost their marks, from a place on.
+pub fn changed<T: Lent>(memory: &[T], from: usize) -> usize
+    ensures { result ≡ count_by (λ x. not (T.is x T.MARK)) (drop from memory.now) }
+{
+    memory.iter().skip(from).filter(|x| !x.is(T::MARK)).count()
+}
+
+// The next number, or a mark where none is left.
+fn next_or_mark<T: Lent + Number>(held: &mut Reader) -> T
+    ensures value { result ≡ first_or_mark T.Lent.MARK T.SIZE T.value held.old }
+    ensures rest { held.new ≡ drop T.SIZE held.old }
+{
+    held.number().unwrap_or(T::MARK)
+}
+
+// Does memory begin with the numbers of these bytes, and keep its marks after them?
+pub fn holds<T: Lent + Number>(memory: &[T], held: &[u8]) -> bool
+    ensures { result ≡ holds_of T.is T.Lent.MARK T.SIZE T.value memory.now held.now }
+{
+    let mut left = Reader::new(held);
+    for x in memory {
+        if !x.is(next_or_mark(&mut left)) {
+            return false;
+        }
+    }
+    left.is_empty()
+}

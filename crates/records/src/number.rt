@@ -1,0 +1,66 @@
+// The numbers of a record, which are little-endian.
+ghost use Rattle.std.specs.Prelude.{◌≡◌, ℕ, ◌≤◌, List, true, length, slice_index};
+ghost use Rattle.fields.specs.Fields.{u32_at, u64_at, f64_at};
+
+// A number that so many bytes hold.
+pub trait Number: Copy {
+    ghost SIZE: { ℕ };
+
+    ghost value: { List ℕ → Self };
+
+    const SIZE: usize;
+
+    // The number that bytes begin with.
+    fn from_bytes(bytes: &[u8]) -> Self
+        requires { SIZE ≤ length bytes.now }
+        ensures { result ≡ value bytes.now };
+}
+
+impl Number for u8 {
+    ghost SIZE = { 1 };
+
+    ghost value = { λ s. slice_index s 0 };
+
+    const SIZE: usize = 1;
+
+    fn from_bytes(bytes: &[u8]) -> u8 {
+        bytes[0]
+    }
+}
+
+impl Number for u32 {
+    ghost SIZE = { 4 };
+
+    ghost value = { λ s. u32_at true s 0 };
+
+    const SIZE: usize = 4;
+
+    fn from_bytes(bytes: &[u8]) -> u32 {
+        fields::u32_at(bytes, 0, true)
+    }
+}
+
+impl Number for u64 {
+    ghost SIZE = { 8 };
+
+    ghost value = { λ s. u64_at true s 0 };
+
+    const SIZE: usize = 8;
+
+    fn from_bytes(bytes: &[u8]) -> u64 {
+        fields::u64_at(bytes, 0, true)
+    }
+}
+
+// The f64 of a pattern.
+impl Number for f64 {
+    ghost SIZE = { 8 };
+
+    ghost value = { λ s. f64_at true s 0 };
+
+    const SIZE: usize = 8;
+
+    fn from_bytes(bytes: &[u8]) -> f64 {
+        fields::f64_at(bytes, 0, true)
+    }
+}

@@ -1,0 +1,2 @@
+-- The patch of a number, where a cursor stands.
+pub mod Numbered

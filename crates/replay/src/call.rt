@@ -1,0 +1,204 @@
+// A recorded call, and what is expected of it.
+ghost use Rattle.std.specs.Prelude.{◌*◌, ◌-◌, ◌^◌, ◌≤◌, ◌<◌, IfOk, length};
+
+use crate::patches::patch_by_cursor;
+use crate::reply::Reply;
+use blob::blob_sizes;
+use ieee754::from_pattern;
+use interpolation::st_3d_line_interpolate_point;
+use records::{Held, Reader, Record, RecordError, Refused, Workspace, WorkspaceSize, holds, lend};
+use std::alloc::{AllocError, Global};
+use surface::patch_range;
+use threed_closest::{
+    st_3d_closest_point, st_3d_distance, st_3d_dwithin, st_3d_intersects, st_3d_shortest_line,
+};
+use threed_farthest::{st_3d_dfully_within, st_3d_longest_line, st_3d_max_distance};
+
+// The operations, by their numbers.
+#[derive(Clone, Copy, Debug, PartialEq, Eq)]
+pub enum Operation {
+    Distance = 0,
+    MaxDistance = 1,
+    DWithin = 2,
+    DFullyWithin = 3,
+    Intersects = 4,
+    ClosestPoint = 5,
+    ShortestLine = 6,
+    LongestLine = 7,
+    LineInterpolatePoint = 8,
+    Patch = 9,
+    Sizes = 10,
+}
+
+impl TryFrom<u32> for Operation {
+    type Error = RecordError;
+
+    fn try_from(number: u32) -> Result<Operation, RecordError> {
+        match number {
+            0 => Ok(Operation::Distance),
+            1 => Ok(Operation::MaxDistance),
+            2 => Ok(Operation::DWithin),
+            3 => Ok(Operation::DFullyWithin),
+            4 => Ok(Operation::Intersects),
+            5 => Ok(Operation::ClosestPoint),
+            6 => Ok(Operation::ShortestLine),
+            7 => Ok(Operation::LongestLine),
+            8 => Ok(Operation::LineInterpolatePoint),
+            9 => Ok(Operation::Patch),
+            10 => Ok(Operation::Sizes),
+            _ => Err(RecordError::Unknown(number)),
+        }
+    }
+}
+
+// The numbers that a record begins with.
+#[derive(Clone, Copy)]
+struct Head {
+    operation: u32,
+    length_a: usize,
+    length_b: usize,
+    lent_output: usize,
+    length_output: usize,
+    lent1: WorkspaceSize,
+    lent2: WorkspaceSize,
+    held1: WorkspaceSize,
+    held2: WorkspaceSize,
+    case: u32,
+    refused: Refused,
+    rule: u32,
+    argument: u64,
+    first: u64,
+    second: u64,
+}
+
+impl<'a> Record<'a> for Head {
+    fn read(from: &mut Reader<'a>) -> Result<Self, RecordError> {
+        Ok(Head {
+            operation: from.number()?,
+            length_a: from.length()?,
+            length_b: from.length()?,
+            lent_output: from.length()?,
+            length_output: from.length()?,
+            lent1: WorkspaceSize::read(from)?,
+            lent2: WorkspaceSize::read(from)?,
+            held1: WorkspaceSize::read(from)?,
+            held2: WorkspaceSize::read(from)?,
+            case: from.number()?,
+            refused: Refused::read(from)?,
+            rule: from.number()?,
+            argument: from.number()?,
+            first: from.number()?,
+            second: from.number()?,
+        })
+    }
+}
+
+// A call on a blob, or on two; the argument is a distance's or fraction's pattern, or which patch.
+#[derive(Drop)]
+pub struct Call<'a> {
+    operation: Operation,
+    pub a: &'a [u8],
+    pub b: &'a [u8],
+    rule: u32,
+    argument: u64,
+    lent1: WorkspaceSize,
+    lent2: WorkspaceSize,
+    lent_output: usize,
+    reply: Reply,
+    output: &'a [u8],
+    held1: Held<'a>,
+    held2: Held<'a>,
+}
+
+impl<'a> Record<'a> for Call<'a> {
+    fn read(from: &mut Reader<'a>) -> Result<Self, RecordError> {
+        let head = Head::read(from)?;
+        let a = from.take(head.length_a)?;
+        let b = from.take(head.length_b)?;
+        let output = from.take(head.length_output)?;
+        let held1 = Held::read(from, head.held1)?;
+        let held2 = Held::read(from, head.held2)?;
+        Ok(Call {
+            operation: head.operation.try_into()?,
+            a,
+            b,
+            rule: head.rule,
+            argument: head.argument,
+            lent1: head.lent1,
+            lent2: head.lent2,
+            lent_output: head.lent_output,
+            reply: Reply::of(head.case, head.refused, head.first, head.second)?,
+            output,
+            held1,
+            held2,
+        })
+    }
+}
+
+impl Call<'_> {
+    // Does the library answer, and leave memory, as expected?
+    pub fn is_same(&self, alloc: Global) -> Result<bool, AllocError> {
+        let mut one = Workspace::lend(alloc, self.lent1)?;
+        let mut two = Workspace::lend(alloc, self.lent2)?;
+        let mut output = lend(alloc, self.lent_output)?;
+        let reply = self.reply_with(&mut one, &mut two, &mut output);
+        Ok(
+            reply == self.reply
+                && self.is_same_by_cursor()
+                && one.holds(&self.held1)
+                && two.holds(&self.held2)
+                && holds(&output, self.output),
+        )
+    }
+
+    // The library's reply, with these workspaces and this output.
+    fn reply_with(&self, one: &mut Workspace, two: &mut Workspace, output: &mut [u8]) -> Reply {
+        let (a, b, rule) = (self.a, self.b, self.rule);
+        let d = from_pattern(self.argument);
+        let Workspace {
+            floats: floats1,
+            table: table1,
+        } = one;
+        let Workspace {
+            floats: floats2,
+            table: table2,
+        } = two;
+        match self.operation {
+            Operation::Distance => {
+                st_3d_distance(a, b, rule, floats1, table1, floats2, table2).into()
+            }
+            Operation::MaxDistance => {
+                st_3d_max_distance(a, b, floats1, table1, floats2, table2).into()
+            }
+            Operation::DWithin => {
+                st_3d_dwithin(a, b, d, rule, floats1, table1, floats2, table2).into()
+            }
+            Operation::DFullyWithin => {
+                st_3d_dfully_within(a, b, d, floats1, table1, floats2, table2).into()
+            }
+            Operation::Intersects => {
+                st_3d_intersects(a, b, rule, floats1, table1, floats2, table2).into()
+            }
+            Operation::ClosestPoint => {
+                st_3d_closest_point(a, b, rule, floats1, table1, floats2, table2, output).into()
+            }
+            Operation::ShortestLine => {
+                st_3d_shortest_line(a, b, rule, floats1, table1, floats2, table2, output).into()
+            }
+            Operation::LongestLine => {
+                st_3d_longest_line(a, b, floats1, table1, floats2, table2, output).into()
+            }
+            Operation::LineInterpolatePoint => {
+                st_3d_line_interpolate_point(a, d, floats1, table1, output).into()
+            }
+            Operation::Patch => patch_range(a, self.argument).into(),
+            Operation::Sizes => blob_sizes(a).into(),
+        }
+    }
+
+    // Does the cursor answer as expected, if a patch is asked for?
+    fn is_same_by_cursor(&self) -> bool {
+        self.operation != Operation::Patch
+            || Reply::from(patch_by_cursor(self.a, self.argument)) == self.reply
+    }
+}
