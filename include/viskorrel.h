@@ -63,7 +63,7 @@
 #include <stddef.h>
 #include <stdint.h>
 
-#define VISKORREL_VERSION "0.7.1"
+#define VISKORREL_VERSION "0.7.2"
 
 #ifdef __cplusplus
 extern "C" {
