@@ -1,4 +1,3 @@
--- The laws of folds that skip, of what is known of listed items, and of a walk over a side.
+-- The laws of folds that skip, and of what is known of listed items.
 pub mod Folds
 pub mod Known
-pub mod Walks

@@ -83,7 +83,8 @@ pub fn read_header_3d(s: &[u8], side: Side) -> Result<TopHeader, Refusal>
 #[tactic(auto, using(crate::proofs::Steps::walk_read))]
 pub fn read_walk(s: &[u8], top: TopHeader, side: Side) -> Result<Operand, Refusal>
     requires { top ≡ top_header_of s.now }
-    ensures { result ≡ refused_or (first_of (on_side side (walk_checks s.now (geometry_start s.now)))) (operand_of s.now) }
+    ensures { result ≡ refused_or
+        (first_of (on_side side (walk_checks s.now (geometry_start s.now)))) (operand_of s.now) }
 {
     match coords::count(s, top.at) {
         Err(reason) => Err(reason.of(side)), // the walk's

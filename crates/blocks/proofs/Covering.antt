@@ -210,20 +210,20 @@ unfolding axis_x axis_y axis_z empty_cover
 empty_fitting = let f = inf-fits binary64 false in let t = inf-fits binary64 true in record { ends_x = (f, t); ends_y = (f, t); ends_z = (f, t) }
 
 -- ---- a cover of a block of items
-abbrev BoxFits : Item → Type 0
-BoxFits i = Fitting (box_of_item i)
+abbrev BoxFitting : Item → Type 0
+BoxFitting i = Fitting (box_of_item i)
 
-block_fitting : (k : Aabb) (l : List Item) → Fitting k → Each BoxFits l → Fitting (foldl cover_item k l)
+block_fitting : (k : Aabb) (l : List Item) → Fitting k → Each BoxFitting l → Fitting (foldl cover_item k l)
 unfolding cover_item
 block_fitting k [] f e = f
 block_fitting k (i ∷ l) f e = block_fitting (cover_item k i) l (cover_fitting k (box_of_item i) f e.0) e.1
 
-block_keeps : (k : Aabb) (l : List Item) → Fitting k → Each BoxFits l → (n : Aabb) → Fitting n → Covers k n → Covers (foldl cover_item k l) n
+block_keeps : (k : Aabb) (l : List Item) → Fitting k → Each BoxFitting l → (n : Aabb) → Fitting n → Covers k n → Covers (foldl cover_item k l) n
 unfolding cover_item
 block_keeps k [] f e n fn c = c
 block_keeps k (i ∷ l) f e n fn c = block_keeps (cover_item k i) l (cover_fitting k (box_of_item i) f e.0) e.1 n fn (cover_keeps k (box_of_item i) f e.0 n fn c)
 
-block_covers : (k : Aabb) (l : List Item) → Fitting k → Each BoxFits l → Each (λ (i : Item). Covers (foldl cover_item k l) (box_of_item i)) l
+block_covers : (k : Aabb) (l : List Item) → Fitting k → Each BoxFitting l → Each (λ (i : Item). Covers (foldl cover_item k l) (box_of_item i)) l
 unfolding cover_item
 block_covers k [] f e = tt
 block_covers k (i ∷ l) f e =

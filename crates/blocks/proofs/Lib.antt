@@ -1,6 +1,5 @@
 -- The laws of covers and blocks.
-pub mod Spans
-pub mod ItemBoxes
 pub mod Covering
+pub mod Room
 pub mod Blocks
-pub mod Cutting
+pub mod Passing

@@ -1,3 +1,2 @@
-pub mod Spans
 pub mod Cover
 pub mod Blocks

@@ -1,189 +1,140 @@
-// The closest sweep: the items of A in order, each with the items of B in order, points before segments before triangles; what is skipped
-// and when it ends is told in `against`. Where A is one point (`from_one_point`) each item of B is looked at once, so no box of it is kept,
-// and one point with one point needs no box at all. Else B has an index, made once: of single items where there are at most 16 (`listing`),
-// of blocks where there are more (`sweep_many`).
+// The closest sweep: the items of A in order, each with the items of B in order, points before segments before
+// triangles; what is skipped and when it ends is told in `against`. Where A is one point (`from_one_point`) each item
+// of B is looked at once, so no box of it is kept, and one point with one point needs no box at all. Else B has an
+// index, made once: of its items where there are at most 16 (`listing`), of blocks where there are more (`sweep_many`).
 #![tactic(auto)]
 
-ghost use Rattle.std.specs.Prelude.{◌≡◌, None, ◌+◌, ◌*◌, ◌≤◌, length};
-ghost use Rattle.workspace.specs.Workspace.{floats_per_coordinate};
-ghost use Rattle.parts.specs.Stored.{stored_point, stored_runs, Laid};
+ghost use Rattle.std.specs.Prelude.{◌≡◌, ◌⊎◌, None, [], ◌∷◌, ◌*◌, ◌≤◌, length, IfSome};
 ghost use Rattle.items.specs.Items.{items_of};
 ghost use Rattle.items.specs.declared.Item.TheVariants.{Point as point};
-ghost use Rattle.items.specs.Inner.{class_items};
-ghost use Rattle.items.specs.InnerRepeats.{first_before};
 ghost use Rattle.items.specs.Closest.{with_each, sweep_of, closest_of};
-ghost use Rattle.against.specs.Indexed.{Indexed, listed_rows};
-ghost use Rattle.against.specs.Known.{Known};
-ghost use Rattle.closest.specs.Inner.{met, is_one_point};
+ghost use Rattle.listing.specs.Listing.{most_listed};
+ghost use Rattle.blocks.specs.Blocks.{most_rows};
+ghost use Rattle.against.specs.Indexed.{indexed_items, listed_rows};
 
-use against::{Index, Meet, Probe, Target};
+use against::{Before, Index, Target};
+use blocks::Block;
 use extremes::{Best, Closest};
-use items::Item;
-use listing::{LISTED, NO_ROW, Place};
-use parts::Class;
-use primitives::{Aabb, UnrootedWitness, Witness};
+use items::{Boxed, Item, Items};
+use listing::LISTED;
+use parts::{Class, Stored};
+use primitives::{Aabb, Point, UnrootedWitness, Witness};
 
-// The items of A against B: what they are swept against, and with which of B's listed items the item before was measured.
-#[derive(Drop)]
-struct Sweep<'s, 'i> {
-    target: Target<'s, 'i>,
-    known: [bool; 16],
-}
-
-impl<'s, 'i> Meet for Sweep<'s, 'i> {
-    ghost valid = { λ v. Indexed v.target.index v.target.table.now v.target.floats.now };
-
-    ghost step = { λ v best a. met v.target.all (items_of (stored_runs v.target.table.now v.target.floats.now)) best a };
-
-    ghost ready = { λ v best a. Known (first_before a) best v.known v.target.floats.now (listed_rows v.target.index) };
-
-    fn start_run(&mut self) {
-        self.known = [false; 16];
-    }
-
-    fn meet(&mut self, best: Best<Closest>, a: Item) -> Best<Closest> {
-        against::with_all(best, &self.target, a, &mut self.known)
-    }
-
-    fn ends(&self, best: &Best<Closest>) -> bool {
-        against::ends(self.target.stop, best)
-    }
-}
+const ORIGIN: Point = Point {
+    x: 0.0,
+    y: 0.0,
+    z: 0.0,
+};
 
 // All items of A, each with all items of B.
-fn sweep_all(target: Target, floats1: &[f64], table1: &[u32]) -> Best<Closest>
-    requires laid { Laid table1.now floats1.now }
-    requires indexed { Indexed target.index target.table.now target.floats.now }
-    ensures { result ≡ sweep_of target.entry.all (items_of (stored_runs target.entry.table.now target.entry.floats.now)) None (items_of (stored_runs table1.now floats1.now)) }
+#[tactic(auto, using(against::proofs::Folds::sweep_turns))]
+fn sweep_all(target: &Target<'_, '_>, side: &Stored<'_>) -> Best<Closest>
+    requires { length (listed_rows target.now.index) ≤ most_listed }
+    ensures { result ≡ sweep_of target.now.all (indexed_items target.now.index) None (items_of side.now) }
 {
-    let mut sweep = Sweep {
-        target,
-        known: [false; 16],
+    let mut best = Best::none();
+    let mut before = Before {
+        item: None,
+        met: [false; 16],
     };
-    against::meet_all(&mut sweep, floats1, table1)
+    for item in Items::of(side) {
+        if against::ends(target.stop, &best) {
+            return best;
+        }
+        against::with_all(&mut best, target, &Boxed::new(item), &mut before);
+    }
+    best
 }
 
-// The sweep where B has many items, so many, in that box: its index is of blocks.
-fn sweep_many<'s>(
+// The sweep where B has many items, so many, in that box: its index is of blocks, for which there are these rows.
+// That so many are B's items is asked here and below: the list found it, and the cut needs it.
+fn sweep_blocks<'b>(
     stop: bool,
     count: usize,
     all: Aabb,
-    floats1: &[f64],
-    table1: &[u32],
-    floats: &'s [f64],
-    table: &'s [u32],
+    a: &Stored<'_>,
+    b: &Stored<'b>,
+    rows: &mut [Block<'b>],
 ) -> Best<Closest>
-    requires laid { Laid table1.now floats1.now }
-    requires laid_2 { Laid table.now floats.now }
-    requires count_value { count ≡ length (items_of (stored_runs table.now floats.now)) }
-    ensures { result ≡ sweep_of all (items_of (stored_runs table.now floats.now)) None (items_of (stored_runs table1.now floats1.now)) }
+    requires count { count ≡ length (items_of b.now) }
+    requires room { (most_rows ≤ length rows.old) ⊎ (count ≤ 8 * length rows.old) }
+    ensures { result ≡ sweep_of all (items_of b.now) None (items_of a.now) }
 {
-    let mut rows = [NO_ROW; 131];
-    let cut = blocks::cut(count, floats, table, &mut rows);
-    let target = Target {
-        floats,
-        table,
-        index: Index::Blocks(&rows[..cut.rows], cut.size),
-        all,
-        stop,
-    };
-    sweep_all(target, floats1, table1)
+    let cut = blocks::cut(count, b, rows);
+    let index = Index::Blocks(&rows[..cut]);
+    sweep_all(&Target { index, all, stop }, a)
+}
+
+// The same, with rows enough. To fill 128 of them takes longer than to sweep a few items, which need no more than 16.
+fn sweep_many(stop: bool, count: usize, all: Aabb, a: &Stored<'_>, b: &Stored<'_>) -> Best<Closest>
+    requires { count ≡ length (items_of b.now) }
+    ensures { result ≡ sweep_of all (items_of b.now) None (items_of a.now) }
+{
+    let none = Block::none(Items::of(b));
+    if count <= 128 {
+        let mut rows = [none; 16];
+        return sweep_blocks(stop, count, all, a, b, &mut rows);
+    }
+    let mut rows = [none; 128];
+    sweep_blocks(stop, count, all, a, b, &mut rows)
 }
 
 // All items of A, each with all items of B, whose index is of single items if they are few.
-fn from_all<'s>(
-    stop: bool,
-    floats1: &[f64],
-    table1: &[u32],
-    floats: &'s [f64],
-    table: &'s [u32],
-) -> Best<Closest>
-    requires laid { Laid table1.now floats1.now }
-    requires laid_2 { Laid table.now floats.now }
-    ensures { result ≡ closest_of (items_of (stored_runs table1.now floats1.now)) (items_of (stored_runs table.now floats.now)) }
+#[tactic(auto, using(crate::proofs::Listed::listed_some, crate::proofs::Listed::listed_nothing))]
+fn from_all(stop: bool, a: &Stored<'_>, b: &Stored<'_>) -> Best<Closest>
+    ensures { result ≡ closest_of (items_of a.now) (items_of b.now) }
 {
-    let mut rows = [NO_ROW; 16];
-    let list = listing::list_all(floats, table, &mut rows);
+    let none = Boxed::new(Item::Point(ORIGIN));
+    let mut rows = [none; 16];
+    let list = listing::list_all(b, &mut rows);
     match list.all {
         None => Best::none(),
         Some(all) => {
             if LISTED < list.count {
-                return sweep_many(stop, list.count, all, floats1, table1, floats, table);
+                return sweep_many(stop, list.count, all, a, b);
             }
-            let target = Target {
-                floats,
-                table,
-                index: Index::Items(&rows[..list.count]),
-                all,
-                stop,
-            };
-            sweep_all(target, floats1, table1)
+            let index = Index::Listed(&rows[..list.count]);
+            sweep_all(&Target { index, all, stop }, a)
         }
     }
 }
 
-// Whether a table holds one point and nothing else.
-#[tactic(auto, unfolding(crate::specs::Inner::is_one_point))]
-fn is_one_point(table: &[u32]) -> bool
-    ensures { result ≡ is_one_point table.now }
+// The point of a side that is one point and nothing else.
+#[tactic(auto, using(crate::proofs::OnePoint::only_item))]
+fn only_point(side: &Stored<'_>) -> Option<Point>
+    ensures { IfSome result (λ p. items_of side.now ≡ point p ∷ []) }
 {
-    parts::run_count(table) == 1 && parts::kind_at(table, 0) == 1 && parts::count_at(table, 0) == 1
+    let mut runs = side.runs();
+    let run = runs.next()?;
+    match runs.next() {
+        None if run.is_of(Class::Points) && run.points.len() == 1 => run.points.first(),
+        _ => None,
+    }
 }
 
-// An item with the items of a class of B.
-fn with_class(
-    best: Best<Closest>,
-    stop: bool,
-    probe: &Probe,
-    class: Class,
-    floats: &[f64],
-    table: &[u32],
-) -> Best<Closest>
-    requires { Laid table.now floats.now }
-    ensures { result ≡ with_each probe.now.item best (class_items class (stored_runs table.now floats.now)) }
+// One point with all items of B: no box of B is needed.
+#[tactic(auto, using(crate::proofs::OnePoint::one_with_one, crate::proofs::OnePoint::all_taken))]
+fn from_one_point(stop: bool, p: Point, b: &Stored<'_>) -> Best<Closest>
+    ensures { result ≡ with_each (point p) None (items_of b.now) }
 {
-    let first = Place {
-        class,
-        r: 0,
-        at: 0,
-        j: 0,
-    };
-    against::with_span(best, stop, probe, floats, table, first, floats.len())
-}
-
-// The first point of A with all items of B: no box of B is needed.
-fn from_one_point(stop: bool, floats1: &[f64], floats: &[f64], table: &[u32]) -> Best<Closest>
-    requires floats_per_coordinate_in_bounds { floats_per_coordinate * (0 + 1) ≤ length floats1.now }
-    requires laid { Laid table.now floats.now }
-    ensures { result ≡ with_each (point (stored_point floats1.now 0)) None (items_of (stored_runs table.now floats.now)) }
-{
-    let p = parts::point_at(floats1, 0);
-    if is_one_point(table) {
-        let q = parts::point_at(floats, 0);
-        return Best::none().offer(UnrootedWitness::between(p, q));
+    let mut best = Best::none();
+    match only_point(b) {
+        Some(q) => best.offer(UnrootedWitness::between(p, q)),
+        None => {
+            let probe = Boxed::new(Item::Point(p));
+            against::with_span(&mut best, stop, &probe, Items::of(b), usize::MAX);
+        }
     }
-    let probe = Probe::new(Item::Point(p));
-    let mut seen = Best::none();
-    for class in listing::CLASSES {
-        seen = with_class(seen, stop, &probe, class, floats, table);
-    }
-    seen
+    best
 }
 
 // The closest pair of points of two workspaces' items. Stopping at 0 changes no answer.
-pub fn closest<'s>(
-    floats1: &[f64],
-    table1: &[u32],
-    floats2: &'s [f64],
-    table2: &'s [u32],
-    stop_at_zero: bool,
-) -> Option<Witness>
-    requires laid { Laid table1.now floats1.now }
-    requires laid_2 { Laid table2.now floats2.now }
-    ensures { result ≡ closest_of (items_of (stored_runs table1.now floats1.now)) (items_of (stored_runs table2.now floats2.now)) }
+#[tactic(auto, using(crate::proofs::OnePoint::from_one))]
+pub fn closest(a: &Stored<'_>, b: &Stored<'_>, stop_at_zero: bool) -> Option<Witness>
+    ensures { result ≡ closest_of (items_of a.now) (items_of b.now) }
 {
-    if is_one_point(table1) {
-        return from_one_point(stop_at_zero, floats1, floats2, table2).witness();
+    if let Some(p) = only_point(a) {
+        return from_one_point(stop_at_zero, p, b).witness();
     }
-    from_all(stop_at_zero, floats1, table1, floats2, table2).witness()
+    from_all(stop_at_zero, a, b).witness()
 }

@@ -1,4 +1,4 @@
--- The sweep by rule 2: list after list, by the box of a listing, and where there is no face.
+-- The sweep by rule 2: item after item, by the box of side 2's items, and where there is no face.
 pub mod Folds
 pub mod Listed
 pub mod WithoutFaces

@@ -4,7 +4,8 @@
 ghost use Rattle.std.specs.Prelude.{◌≡◌, ◌+◌, ◌^◌, ◌<◌, ltb};
 ghost use Rattle.std.specs.Option.{ok_or};
 ghost use Rattle.refusals.specs.declared.Reason.TheVariants.{UnknownKind};
-ghost use Rattle.coords.specs.Walk.{map_parsed, z_of, m_of, header_at, stride_of, rings_at, geometry_class_of, all_levels, walk_of};
+ghost use Rattle.coords.specs.Walk.{map_parsed, z_of, m_of, header_at, stride_of};
+ghost use Rattle.coords.specs.Walk.{rings_at, geometry_class_of, all_levels, walk_of};
 ghost use Rattle.coords.specs.Inner.{count_at, coordinates_runs, line_runs, members_at_runs};
 ghost use Rattle.coords.specs.Parts.{rings_runs, other_if};
 ghost use Rattle.coords.specs.Counts.{no_counts, joined, run_counts, counts_of};
@@ -31,6 +32,7 @@ pub enum GeometryClass {
     Collection,
 }
 
+// By the kind's number, in the match that the scope names (docs/SCOPE.md), though `fields::Kind` has the numbers too.
 impl TryFrom<u32> for GeometryClass {
     type Error = Reason;
 
@@ -90,7 +92,8 @@ impl Counts {
 // The levels that are read: 0, the top, to 32.
 pub const ALL_LEVELS: usize = 33;
 
-// Whether a type says that ordinates have a z, and whether it says that they have an m.
+// Whether a type says that ordinates have a z, and whether it says that they have an m. The numbers of the thousands
+// stand in this one match, which makes values of them: an enum of them would be matched once more.
 #[tactic(auto, unfolding(crate::specs::Walk::z_of, crate::specs::Walk::m_of))]
 fn dimensions(code: u32) -> (bool, bool)
     ensures { result ≡ (z_of code, m_of code) }

@@ -1,10 +1,12 @@
-// Pair rule 2: a segment against a triangle first tries a crossing (document 02, 3/13). A crossing's distance is 0, so that nothing after it
-// in the pair changes the best: where there is one, it is offered alone, and where there is none, the pair is measured as by rule 1.
+// Pair rule 2: a segment against a triangle first tries a crossing (document 02, 3/13). A crossing's distance is 0, so
+// that nothing after it in the pair changes the best: where there is one, it is offered alone, and where there is none,
+// the pair is measured as by rule 1.
 #![tactic(auto)]
 
 ghost use Rattle.std.specs.Prelude.{◌≡◌};
 ghost use Rattle.measures.specs.InnerOffers.{offered_all};
-ghost use Rattle.crossings.specs.Crossings.{side_of, opposite_sides, counts_as_crossing, crossing, edge_crossings, triangle_crossings, candidates_by_rule2};
+ghost use Rattle.crossings.specs.Crossings.{side_of, opposite_sides, counts_as_crossing, crossing};
+ghost use Rattle.crossings.specs.Crossings.{edge_crossings, triangle_crossings, candidates_by_rule2};
 ghost use Rattle.crossings.specs.InnerCrossings.{crossing_by, offered_by, first_only, crossings_of};
 
 use extremes::{Best, Closest};
@@ -12,7 +14,8 @@ use items::Item;
 use measures::{Follows, Triangle};
 use primitives::{Point, UnrootedWitness, Witness};
 
-// On which side of the plane through a with the normal n the point p lies: above 0 where n points, below 0 on the other.
+// On which side of the plane through a with the normal n the point p lies: above 0 where n points, below 0 on the
+// other.
 #[tactic(auto, unfolding(crate::specs::Crossings::side_of))]
 fn side(p: Point, a: Point, n: Point) -> f64
     ensures { result ≡ side_of p a n }
@@ -28,8 +31,8 @@ fn opposite(start: f64, end: f64) -> bool
     (start > 0.0 && end < 0.0) || (start < 0.0 && end > 0.0)
 }
 
-// Whether the point x of a segment counts as a crossing of t: the normal n has a squared length above 0, x lies inside t, and its distance to
-// itself is 0.
+// Whether the point x of a segment counts as a crossing of t: the normal n has a squared length above 0, x lies inside
+// t, and its distance to itself is 0.
 #[tactic(auto, using(measures::proofs::Literals::zero), unfolding(crate::specs::Crossings::counts_as_crossing))]
 fn counts(t: Triangle, n: Point, x: Point) -> bool
     ensures { result ≡ counts_as_crossing t n x }
@@ -37,7 +40,8 @@ fn counts(t: Triangle, n: Point, x: Point) -> bool
     n.dot(n) > 0.0 && t.contains(x, n) && Witness::between(x, x).d == 0.0
 }
 
-// The crossing of the segment s e with the triangle t, whose normal is n. start and end are the sides of s and e: the caller computes each once.
+// The crossing of the segment s e with the triangle t, whose normal is n. start and end are the sides of s and e: the
+// caller computes each once.
 #[tactic(auto, unfolding(crate::specs::InnerCrossings::crossing_by))]
 fn segment_by_sides(
     s: Point,
@@ -63,26 +67,31 @@ fn segment_by_sides(
 pub fn segment_through(s: Point, e: Point, t: Triangle) -> Option<Point>
     ensures { offered_by result ≡ crossing s e t }
 {
+    let Triangle { a, .. } = t;
     let n = t.normal();
-    segment_by_sides(s, e, side(s, t.a, n), side(e, t.a, n), t, n)
+    segment_by_sides(s, e, side(s, a, n), side(e, a, n), t, n)
 }
 
-// The first crossing of an edge of t, in the order ab, bc, ca, with the triangle u. Two edges share each vertex, so its side is computed once.
+// The first crossing of an edge of t, in the order ab, bc, ca, with the triangle u. Two edges share each vertex, so its
+// side is computed once. Each try returns: closures for `or_else` would hold points and sides in memory, and this would
+// take twice the time.
 #[tactic(auto, using(crate::proofs::Firsts::crossing_given, crate::proofs::Firsts::single_first, crate::proofs::Firsts::found_first, crate::proofs::Firsts::none_passed), unfolding(crate::specs::Crossings::edge_crossings))]
 pub fn edges_through(t: Triangle, u: Triangle) -> Option<Point>
     ensures { offered_by result ≡ first_only (edge_crossings t u) }
 {
+    let Triangle { a, b, c } = t;
+    let Triangle { a: corner, .. } = u;
     let n = u.normal();
-    let at_a = side(t.a, u.a, n);
-    let at_b = side(t.b, u.a, n);
-    if let Some(x) = segment_by_sides(t.a, t.b, at_a, at_b, u, n) {
+    let at_a = side(a, corner, n);
+    let at_b = side(b, corner, n);
+    if let Some(x) = segment_by_sides(a, b, at_a, at_b, u, n) {
         return Some(x);
     }
-    let at_c = side(t.c, u.a, n);
-    if let Some(x) = segment_by_sides(t.b, t.c, at_b, at_c, u, n) {
+    let at_c = side(c, corner, n);
+    if let Some(x) = segment_by_sides(b, c, at_b, at_c, u, n) {
         return Some(x);
     }
-    segment_by_sides(t.c, t.a, at_c, at_a, u, n)
+    segment_by_sides(c, a, at_c, at_a, u, n)
 }
 
 // The first crossing of two triangles: t's edges with u, then u's with t.
@@ -97,18 +106,25 @@ pub fn triangles_through(t: Triangle, u: Triangle) -> Option<Point>
 pub fn crossing_between(a: Item, b: Item) -> Option<Point>
     ensures { offered_by result ≡ first_only (crossings_of a b) }
 {
-    match (a, b) {
-        (Item::Segment(s, e), Item::Triangle(u)) => segment_through(s, e, u),
-        (Item::Triangle(t), Item::Segment(s, e)) => segment_through(s, e, t),
-        (Item::Triangle(t), Item::Triangle(u)) => triangles_through(t, u),
-        _ => None,
+    // One match within the other, as in `Item::offer`: a match of both would copy the two items first.
+    match a {
+        Item::Point(_) => None,
+        Item::Segment(s, e) => match b {
+            Item::Triangle(u) => segment_through(s, e, u),
+            _ => None,
+        },
+        Item::Triangle(t) => match b {
+            Item::Point(_) => None,
+            Item::Segment(s, e) => segment_through(s, e, t),
+            Item::Triangle(u) => triangles_through(t, u),
+        },
     }
 }
 
 // The candidates by rule 2 of an item of A with an item of B, offered in order. A crossing ends the pair.
 #[tactic(auto, using(crate::proofs::Tried::none_found))]
-pub fn offer(best: Best<Closest>, a: Item, b: Item) -> Best<Closest>
-    ensures { result ≡ offered_all best (candidates_by_rule2 a b) }
+pub fn offer(best: &mut Best<Closest>, a: Item, b: Item)
+    ensures { best.new ≡ offered_all best.old (candidates_by_rule2 a b) }
 {
     match crossing_between(a, b) {
         Some(x) => best.offer(UnrootedWitness::between(x, x)),

@@ -8,7 +8,7 @@ use Prim.Native.Nat.{ℕ, ◌<◌}
 use native.Mathlib.Omega.{arith}
 use borrow.Author.Tests.{lt-ltb, ltb-true}
 use lib.Dec.{ltb, eqb}
-use lib.ListN.{length, drop}
+use lib.ListN.{length}
 use lib.Ieee.{Float, lt}
 use Rattle.ieee754.specs.MinMax.{positive_zero}
 use Rattle.refusals.specs.Checks.{Check, first_of, on_side}
@@ -26,7 +26,7 @@ use Rattle.outcomes.specs.Operations.{no_side, outcome, unless, tolerance_checks
 use Rattle.outcomes.proofs.RefusedExactly.{First}
 use Rattle.dig_matcher.specs.Tape.{Command, load, tolerance, pair, tape_of, commands_of, is_broken}
 use Rattle.dig_matcher.specs.Job.{Job, Progress, going, stopped, start_of_job, loaded_with, after_report, after_checks, matched, after_command, stepped, at_tape_end, if_room, job_of}
-use Rattle.dig_matcher.specs.Inner.{CommandAt, Matched, match_of, after_match, run_from}
+use Rattle.dig_matcher.specs.Inner.{Starts, Matched, match_of, after_match, run_from}
 use Rattle.std.specs.Prelude.{Option, Some, None, Ok, Err}
 use Rattle.dig_matcher.specs.declared.Hit.{Hit}
 use Rattle.dig_matcher.proofs.Matches.{matched_is}
@@ -179,12 +179,12 @@ pair_twice w job job' i j e =
     (again.0, again.1, matched_is w job' i j (job'.loaded i) (job'.loaded j) ∙ ap (after_match job' i j) same ∙ again.2)
 
 -- the same of a tape with the pair's command twice in a row: it goes on with both
-pub pair_twice_on_tape : (w : Workspaces) (job job' : Job) (tape : List ℕ) (at next after i j : ℕ) → CommandAt tape at (pair i j) next → CommandAt tape next (pair i j) after → after_command w job (pair i j) ≡ going job' → (new : List Hit) × (job'.hits ≡ job.hits ++ new) × (run_from w (going job) (drop at tape) ≡ run_from w (going (record { loaded = job'.loaded; limit = job'.limit; hits = (job.hits ++ new) ++ new })) (drop after tape))
-pair_twice_on_tape w job job' tape at next after i j one two e =
+pub pair_twice_on_tape : (w : Workspaces) (job job' : Job) (tape next after : List ℕ) (i j : ℕ) → Starts tape (pair i j) next → Starts next (pair i j) after → after_command w job (pair i j) ≡ going job' → (new : List Hit) × (job'.hits ≡ job.hits ++ new) × (run_from w (going job) tape ≡ run_from w (going (record { loaded = job'.loaded; limit = job'.limit; hits = (job.hits ++ new) ++ new })) after)
+pair_twice_on_tape w job job' tape next after i j one two e =
     let twice = pair_twice w job job' i j e in
-    let first_step : run_from w (going job) (drop at tape) ≡ run_from w (going job') (drop next tape) = run_command w tape at next (pair i j) job one ∙ ap (λ (p : Progress). run_from w p (drop next tape)) e in
-    let second-step : run_from w (going job') (drop next tape) ≡ run_from w (going (record { loaded = job'.loaded; limit = job'.limit; hits = job'.hits ++ twice.0 })) (drop after tape) = run_command w tape next after (pair i j) job' two ∙ ap (λ (p : Progress). run_from w p (drop after tape)) twice.2 in
-    (twice.0, twice.1, first_step ∙ second-step ∙ ap (λ (l : List Hit). run_from w (going (record { loaded = job'.loaded; limit = job'.limit; hits = l ++ twice.0 })) (drop after tape)) twice.1)
+    let first_step : run_from w (going job) tape ≡ run_from w (going job') next = run_command w tape (pair i j) next job one ∙ ap (λ (p : Progress). run_from w p next) e in
+    let second-step : run_from w (going job') next ≡ run_from w (going (record { loaded = job'.loaded; limit = job'.limit; hits = job'.hits ++ twice.0 })) after = run_command w next (pair i j) after job' two ∙ ap (λ (p : Progress). run_from w p after) twice.2 in
+    (twice.0, twice.1, first_step ∙ second-step ∙ ap (λ (l : List Hit). run_from w (going (record { loaded = job'.loaded; limit = job'.limit; hits = l ++ twice.0 })) after) twice.1)
 
 -- "loading a number again replaces it"
 pub load_replaces : (w : Workspaces) (job : Job) (n : ℕ) (s t : List ℕ) → foldl (stepped w) (going job) (load n s ∷ load n t ∷ []) ≡ foldl (stepped w) (going job) (load n t ∷ [])

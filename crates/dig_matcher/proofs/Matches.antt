@@ -1,27 +1,24 @@
 -- Two numbers matched, and a hit put. Assumes nothing.
 use Rattle.refusals.specs.declared.Reason.TheVariants.{NoSuchBlob, ToleranceBelowZero}
-use mathlib.Core.Path.{◌≡◌, refl, sym, ap, ◌∙◌}
-use mathlib.Core.Bool.{Bool, true, false, cond, ◌||◌}
+use mathlib.Core.Path.{◌≡◌, refl, ap, ◌∙◌}
+use mathlib.Core.Bool.{Bool, true, false, cond}
 use mathlib.Core.List.{List, [], ◌∷◌, ◌++◌, append-nil}
-use Prim.Native.Nat.{ℕ, zero, suc, ◌+◌, ◌-◌, ◌<◌, ◌≤◌}
-use native.Mathlib.Omega.{arith}
-use lib.Dec.{eqb}
-use lib.ListN.{length, get_or, set, take, drop, replicate}
-use lib.Seq.{slice, take-add, drop_at, length-take-le}
+use Prim.Native.Nat.{ℕ, ◌<◌, ◌≤◌}
+use lib.ListN.{set}
 use lib.Ieee.{Float, lt, le}
-use borrow.Author.Tests.{lt-ltb, le-ltb, eq-eqb, ne_eqb}
+use borrow.Author.Tests.{lt-ltb, le-ltb}
 use Rattle.ieee754.specs.MinMax.{positive_zero}
 use Rattle.refusals.specs.Checks.{first_of}
 use Rattle.refusals.specs.declared.Refusal.{Refusal}
-use Rattle.fields.specs.Fields.{u32_at}
 use Rattle.operands.specs.Operands.{Workspaces}
 use Rattle.outcomes.specs.Answers.{number, decided, blob, nothing, Report, answering, refused, answer_report}
 use Rattle.outcomes.specs.Operations.{Outcome, outcome, no_side, tolerance_checks, distance}
 use Rattle.outcomes.specs.declared.Answer.{Answer}
 use Rattle.outcomes.proofs.Lengths.{SameLengths, same_distance}
 use Rattle.dig_matcher.specs.Job.{Job, Progress, going, hits_of, after_report, after_checks, matched, HitLists, hit_lists, places_in}
-use Rattle.dig_matcher.specs.Inner.{Matched, blob_at, HasBlob, blob_if, reported_match, checked_match, match_of, after_match, with_hit}
+use Rattle.dig_matcher.specs.Inner.{blob_of, Matched, reported_match, checked_match, match_of, after_match, with_hit}
 use Rattle.std.specs.Prelude.{Option, Some, None, Ok, Err}
+use Rattle.std.specs.Borrow.{Bor}
 use Rattle.dig_matcher.specs.declared.Hit.{Hit}
 
 -- ---- a match and the definition of a job
@@ -75,65 +72,35 @@ same_match w v same limit (Some a) (Some b) = ap (λ (r : Report). checked_match
 same_match w v same limit (Some a) None = refl
 same_match w v same limit None y = refl
 
--- ---- the same by the blobs' places
+-- what is not some is none
+pub none_left : {A : Type 0} (o : Option A) → ((x : A) → o ≡ Some x → ⊥) → o ≡ None
+none_left None f = refl
+none_left (Some x) f = absurd (f x refl)
 
--- a blob, as a part of the tape
-pub blob_part : (tape : List ℕ) (place n : ℕ) → HasBlob tape place → n ≡ u32_at true tape (place - 4) → take (place + n - place) (drop place tape) ≡ blob_at tape place
-unfolding blob_at
-blob_part tape place n h e =
-    let k : place + n - place ≡ n = omega arith in
-    let l : place ≤ length tape = omega arith in
-    ap (λ (z : ℕ). take z (drop place tape)) k
-    ∙ sym (ap (drop place) (take-add place n tape) ∙ drop_at (take place tape) (take n (drop place tape)) place (length-take-le place tape l))
-    ∙ ap (λ (z : ℕ). slice place (place + z) tape) e
+-- one is not loaded
+pub first_missing : (w : Workspaces) (limit : Float) (first second : Option (Bor (List ℕ))) → first ≡ None → Err (no_side NoSuchBlob) ≡ match_of w limit (blob_of first) (blob_of second)
+unfolding match_of blob_of
+first_missing w limit first second e = rw e
+
+pub second_missing : (w : Workspaces) (limit : Float) (first second : Option (Bor (List ℕ))) → second ≡ None → Err (no_side NoSuchBlob) ≡ match_of w limit (blob_of first) (blob_of second)
+unfolding match_of blob_of
+second_missing w limit None second e = refl
+second_missing w limit (Some a) second e = rw e
 
 -- both are loaded
-pub both_there : (a b : ℕ) → (eqb a 0 || eqb b 0) ≡ false → (a ≡ 0 → ⊥) × (b ≡ 0 → ⊥)
-both_there a b h = (λ e. first_is (rw (eq-eqb a 0 e) at h), λ e. second_is (eqb a 0) (rw (eq-eqb b 0 e) at h))
-  where
-    first_is : true ≡ false → ⊥
-    first_is i = let z : ◌≡◌ {A = ℕ} 1 0 = ap (λ (t : Bool). cond t 1 0) i in omega arith
+module _ (w : Workspaces) (limit : Float) (a b : List ℕ) where
+  tolerance_is : (below : Bool) → lt limit positive_zero ≡ below → first_of (tolerance_checks limit) ≡ cond below (Some (no_side ToleranceBelowZero)) None
+  unfolding first_of tolerance_checks
+  tolerance_is below e = ap (λ (t : Bool). cond t (Some (no_side ToleranceBelowZero)) None) e
 
-    second_is : (s : Bool) → (s || true) ≡ false → ⊥
-    second_is true i = first_is i
-    second_is false i = first_is i
+  pub below_zero : lt limit positive_zero ≡ true → match_of w limit (Some a) (Some b) ≡ Err (no_side ToleranceBelowZero)
+  unfolding match_of checked_match
+  below_zero e = rw (tolerance_is true e)
 
-module _ (tape : List ℕ) (w : Workspaces) (limit : Float) (a b : ℕ) where
-  pub none_there : (eqb a 0 || eqb b 0) ≡ true → match_of w limit (blob_if tape a) (blob_if tape b) ≡ Err (no_side NoSuchBlob)
-  unfolding match_of blob_if
-  none_there h = go (eqb a 0) (eqb b 0) h
-    where
-      go : (s t : Bool) → (s || t) ≡ true → match_of w limit (cond s None (Some (blob_at tape a))) (cond t None (Some (blob_at tape b))) ≡ Err (no_side NoSuchBlob)
-      go true t e = refl
-      go false true e = refl
-      go false false e = absurd (e_false e)
-        where
-          e_false : false ≡ true → ⊥
-          e_false h = let z : ◌≡◌ {A = ℕ} 0 1 = ap (λ (b : Bool). cond b 1 0) h in omega arith
-
-  -- both are loaded
-  module _ (x : a ≡ 0 → ⊥) (y : b ≡ 0 → ⊥) where
-    both : match_of w limit (blob_if tape a) (blob_if tape b) ≡ checked_match (first_of (tolerance_checks limit)) (reported_match limit (distance (blob_at tape a) (blob_at tape b) 1 w).report)
-    unfolding match_of blob_if
-    both = rw (ne_eqb a 0 x, ne_eqb b 0 y)
-
-    tolerance_is : (below : Bool) → lt limit positive_zero ≡ below → first_of (tolerance_checks limit) ≡ cond below (Some (no_side ToleranceBelowZero)) None
-    unfolding first_of tolerance_checks
-    tolerance_is below e = ap (λ (t : Bool). cond t (Some (no_side ToleranceBelowZero)) None) e
-
-    pub below_zero : lt limit positive_zero ≡ true → match_of w limit (blob_if tape a) (blob_if tape b) ≡ Err (no_side ToleranceBelowZero)
-    unfolding checked_match
-    below_zero e = both ∙ rw (tolerance_is true e)
-
-    pub by_distance : lt limit positive_zero ≡ false → match_of w limit (blob_if tape a) (blob_if tape b) ≡ reported_match limit (distance (blob_at tape a) (blob_at tape b) 1 w).report
-    unfolding checked_match
-    by_distance e = both ∙ rw (tolerance_is false e)
-
-    -- by the call's outcome
-    pub by_answer : lt limit positive_zero ≡ false → (p q : List ℕ) (after : Workspaces) (answer : Answer) (m : Matched) → p ≡ blob_at tape a → q ≡ blob_at tape b → outcome (answer_report answer) after [] ≡ distance p q 1 w → m ≡ reported_match limit (answer_report answer) → m ≡ match_of w limit (blob_if tape a) (blob_if tape b)
-    by_answer e p q after answer m ep eq eo em =
-        em ∙ ap (λ (o : Outcome). reported_match limit o.report) (eo ∙ ap (λ (z : List ℕ). distance z q 1 w) ep ∙ ap (λ (z : List ℕ). distance (blob_at tape a) z 1 w) eq)
-        ∙ sym (by_distance e)
+  -- by the call's outcome
+  pub by_answer : lt limit positive_zero ≡ false → (after : Workspaces) (answer : Answer) (m : Matched) → outcome (answer_report answer) after [] ≡ distance a b 1 w → m ≡ reported_match limit (answer_report answer) → m ≡ match_of w limit (Some a) (Some b)
+  unfolding match_of checked_match
+  by_answer e after answer m is told = told ∙ ap (λ (o : Outcome). reported_match limit o.report) is ∙ rw (tolerance_is false e)
 
 -- ---- the hits
 
@@ -145,10 +112,3 @@ hit_put k h l u = rw (lt-ltb k (places_in l) u)
 pub hit_left : (k : ℕ) (h : Hit) (l : HitLists) → places_in l ≤ k → with_hit k h l ≡ l
 unfolding with_hit
 hit_left k h l u = rw (le-ltb k (places_in l) u)
-
--- ---- zeros
-
-pub zeros : (m n : ℕ) → ◌≡◌ {A = ℕ} (get_or (replicate m 0) n 0) 0
-zeros zero n = refl
-zeros (suc m) zero = refl
-zeros (suc m) (suc n) = zeros m n

@@ -1,168 +1,134 @@
 -- A run from hit to hit: what a step of the tape does to what is left to do, and what a hit more does to the hits so far. Assumes nothing.
 use Rattle.refusals.specs.declared.Reason.TheVariants.{BrokenTape}
-use mathlib.Core.Path.{◌≡◌, refl, sym, ◌∙◌}
+use mathlib.Core.Path.{◌≡◌, refl, sym, ap, ◌∙◌}
 use mathlib.Core.List.{List, [], ◌∷◌, ◌++◌}
 use Prim.Native.Nat.{ℕ, ◌+◌, ◌<◌, ◌≤◌}
 use native.Mathlib.Omega.{arith}
-use lib.ListN.{length, take, drop, get_or, set, length-append, length-set}
+use lib.ListN.{length, take, length-append}
 use lib.Ieee.{Float}
-use Rattle.std.specs.Prelude.{Option, Some, None, Ok, Err}
-use Rattle.ieee754.specs.MinMax.{positive_zero}
+use Rattle.std.specs.Prelude.{Option, Some, None, Result, Ok, Err}
+use Rattle.std.specs.Borrow.{Bor}
 use Rattle.refusals.specs.declared.Refusal.{Refusal}
 use Rattle.operands.specs.Operands.{Workspaces}
 use Rattle.outcomes.specs.Operations.{no_side}
 use Rattle.outcomes.proofs.Lengths.{SameLengths}
 use Rattle.dig_matcher.specs.Tape.{load, tolerance, pair}
-use Rattle.dig_matcher.specs.Job.{going, stopped, start_of_job, after_command, HitLists}
-use Rattle.dig_matcher.specs.Inner.{blob_at, StepAt, loaded_at, Matched, match_of, after_match, run_from, passed_of, stored, StoredBy, placed, KeptBy, KeptOutcome, RunFits, job_at, run_on, GivesNext}
+use Rattle.dig_matcher.specs.Job.{going, stopped, start_of_job, loaded_with, after_command, HitLists}
+use Rattle.dig_matcher.specs.Inner.{Reads, loaded_in, Matched, match_of, after_match, run_from, passed_of, stored, StoredBy, placed, KeptBy, KeptOutcome, job_at, run_on, GivesNext}
 use Rattle.dig_matcher.specs.declared.Hit.{Hit}
 use Rattle.dig_matcher.specs.declared.Run.{Run}
+use Rattle.dig_matcher.specs.declared.tape.Step.{Step}
 use Rattle.dig_matcher.specs.declared.tape.Step.TheVariants as step
 use Rattle.dig_matcher.proofs.Matches.{matched_is, same_match}
-use Rattle.dig_matcher.proofs.Runs.{run_command, run_stopped, run_ended, run_breaks, loaded_at_lem, places_set, none_loaded, no_places}
+use Rattle.dig_matcher.proofs.Runs.{run_command, run_stopped, run_ended, run_breaks}
 use Rattle.dig_matcher.proofs.JobLaws.{same_run}
-
--- what is not some is none
-pub none_left : {A : Type 0} (o : Option A) → ((x : A) → o ≡ Some x → ⊥) → o ≡ None
-none_left None f = refl
-none_left (Some x) f = absurd (f x refl)
 
 -- ---- up to the next hit
 
 -- what is left from there is what was left where the call began
-pub record Turn (w : Workspaces) (tape : List ℕ) (begun r : Run) : Type 0 where
-  pub fits : RunFits tape r
-  pub forward : begun.at ≤ r.at
-  pub rest : (hits : List Hit) → run_on w tape begun hits ≡ run_on w tape r hits
+pub record Turn (w : Workspaces) (begun r : Run) : Type 0 where
+  pub shorter : length r.rest.now ≤ length begun.rest.now
+  pub rest : (hits : List Hit) → run_on w begun hits ≡ run_on w r hits
 
-pub load_number : (tape : List ℕ) (at n start end : ℕ) → StepAt tape at (Some (step.Load n start end)) → n < 256
-unfolding StepAt
-load_number tape at n start end s = s.0
+-- a command leaves less of the tape
+pub goes_on : (tape : List ℕ) (s : Step) (rest : Bor (List ℕ)) → Reads tape (Some (s, rest)) → (s ≡ step.End → ⊥) → length rest.now < length tape
+unfolding Reads
+goes_on tape (step.Load n blob) rest h e = h.shorter
+goes_on tape (step.Tolerance d) rest h e = h.shorter
+goes_on tape (step.Pair i j) rest h e = h.shorter
+goes_on tape step.End rest h e = absurd (e refl)
 
-pub pair_numbers : (tape : List ℕ) (at i j next : ℕ) → StepAt tape at (Some (step.Pair i j next)) → (i < 256) × (j < 256)
-unfolding StepAt
-pair_numbers tape at i j next s = (s.0, s.1)
+module _ (w : Workspaces) where
+  pub first_turn : (r : Run) → Turn w r r
+  first_turn r = record { shorter = omega arith; rest = λ hits. refl }
 
--- a step goes on, within the tape
-pub load_on : (tape : List ℕ) (at n start end : ℕ) → StepAt tape at (Some (step.Load n start end)) → (at < end) × (end ≤ length tape)
-unfolding StepAt
-load_on tape at n start end s = (s.2.forward, s.2.inside)
+  module _ (begun r : Run) (turn : Turn w begun r) (left : Bor (List ℕ)) where
+    pub after_load : (n : ℕ) (blob : Bor (List ℕ)) (blobs : List (Option (Bor (List ℕ)))) → loaded_in blobs ≡ loaded_with n blob.now (loaded_in r.blobs) → Reads r.rest.now (Some (step.Load n blob, left)) → Turn w begun (record { blobs = blobs; limit = r.limit; rest = left })
+    unfolding Reads after_command
+    after_load n blob blobs e s = record {
+      shorter = omega (arith, turn.shorter, s.shorter);
+      rest = λ hits. turn.rest hits ∙ run_command w r.rest.now (load n blob.now) left.now (job_at r hits) s ∙ rw e;
+    }
 
-pub tolerance_on : (tape : List ℕ) (at : ℕ) (d : Float) (next : ℕ) → StepAt tape at (Some (step.Tolerance d next)) → (at < next) × (next ≤ length tape)
-unfolding StepAt
-tolerance_on tape at d next s = (s.forward, s.inside)
+    pub after_tolerance : (d : Float) → Reads r.rest.now (Some (step.Tolerance d, left)) → Turn w begun (record { blobs = r.blobs; limit = d; rest = left })
+    unfolding Reads after_command
+    after_tolerance d s = record {
+      shorter = omega (arith, turn.shorter, s.shorter);
+      rest = λ hits. turn.rest hits ∙ run_command w r.rest.now (tolerance d) left.now (job_at r hits) s;
+    }
 
-pub pair_on : (tape : List ℕ) (at i j next : ℕ) → StepAt tape at (Some (step.Pair i j next)) → (at < next) × (next ≤ length tape)
-unfolding StepAt
-pair_on tape at i j next s = (s.2.forward, s.2.inside)
+    pub run_ends : Reads r.rest.now (Some (step.End, left)) → GivesNext w begun (record { blobs = r.blobs; limit = r.limit; rest = left }) (Ok None)
+    unfolding Reads GivesNext
+    run_ends s hits = turn.rest hits ∙ run_ended w _ r.rest.now s
 
-module _ (w : Workspaces) (tape : List ℕ) where
-  pub first_turn : (r : Run) → RunFits tape r → Turn w tape r r
-  first_turn r f = record { fits = f; forward = omega arith; rest = λ hits. refl }
-
-  module _ (begun r : Run) (turn : Turn w tape begun r) where
-    pub after_load : (n start end : ℕ) → StepAt tape r.at (Some (step.Load n start end)) → Turn w tape begun (record { places = set r.places n start; limit = r.limit; at = end })
-    unfolding StepAt after_command
-    after_load n start end s =
-        let h : n < length r.places = omega (arith, turn.fits.numbers, s.0) in
-        record {
-          fits = record { numbers = rw length-set turn.fits.numbers; blobs = places_set tape r.places n start h turn.fits.blobs s.1 };
-          forward = omega (arith, turn.forward, s.2.forward);
-          rest = λ hits. turn.rest hits ∙ run_command w tape r.at end (load n (blob_at tape start)) (job_at tape r hits) s.2 ∙ rw (loaded_at_lem tape r.places n start h s.1);
-        }
-
-    pub after_tolerance : (d : Float) (next : ℕ) → StepAt tape r.at (Some (step.Tolerance d next)) → Turn w tape begun (record { places = r.places; limit = d; at = next })
-    unfolding StepAt after_command
-    after_tolerance d next s =
-        record {
-          fits = record { numbers = turn.fits.numbers; blobs = turn.fits.blobs };
-          forward = omega (arith, turn.forward, s.forward);
-          rest = λ hits. turn.rest hits ∙ run_command w tape r.at next (tolerance d) (job_at tape r hits) s;
-        }
-
-    pub run_ends : StepAt tape r.at (Some step.End) → GivesNext w tape begun r (Ok None)
-    unfolding StepAt GivesNext
-    run_ends s hits = turn.rest hits ∙ run_ended w _ (drop r.at tape) s
-
-    pub tape_breaks : StepAt tape r.at None → GivesNext w tape begun r (Err (no_side BrokenTape))
-    unfolding StepAt GivesNext
-    tape_breaks s hits = turn.rest hits ∙ run_breaks w _ (drop r.at tape) s
-
-    module _ (i j next : ℕ) (s : StepAt tape r.at (Some (step.Pair i j next))) (v : Workspaces) (same : SameLengths w v) (m : Matched) (is : m ≡ match_of v r.limit (loaded_at tape r.places i) (loaded_at tape r.places j)) where
+    module _ (i j : ℕ) (s : Reads r.rest.now (Some (step.Pair i j, left))) (v : Workspaces) (same : SameLengths w v) (m : Matched) (is : m ≡ match_of v r.limit (loaded_in r.blobs i) (loaded_in r.blobs j)) where
       -- the run behind the pair
       abbrev behind : Run
-      behind = record { places = r.places; limit = r.limit; at = next }
+      behind = record { blobs = r.blobs; limit = r.limit; rest = left }
 
-      pub still_fits : RunFits tape behind
-      still_fits = record { numbers = turn.fits.numbers; blobs = turn.fits.blobs }
+      pair_left : (hits : List Hit) → run_on w begun hits ≡ run_from w (after_match (job_at r hits) i j m) left.now
+      unfolding Reads after_command
+      pair_left hits = turn.rest hits ∙ run_command w r.rest.now (pair i j) left.now (job_at r hits) s ∙ rw (matched_is w (job_at r hits) i j (loaded_in r.blobs i) (loaded_in r.blobs j), same_match w v same r.limit (loaded_in r.blobs i) (loaded_in r.blobs j), is)
 
-      pair_left : (hits : List Hit) → run_on w tape begun hits ≡ run_from w (after_match (job_at tape r hits) i j m) (drop next tape)
-      unfolding StepAt after_command
-      pair_left hits = turn.rest hits ∙ run_command w tape r.at next (pair i j) (job_at tape r hits) s.2 ∙ rw (matched_is w (job_at tape r hits) i j (loaded_at tape r.places i) (loaded_at tape r.places j), same_match w v same r.limit (loaded_at tape r.places i) (loaded_at tape r.places j), is)
+      less : length left.now < length begun.rest.now
+      unfolding Reads
+      less = omega (arith, turn.shorter, s.shorter)
 
-      forward : (r.at < next) × (next ≤ length tape)
-      unfolding StepAt
-      forward = (s.2.forward, s.2.inside)
-
-      pub pair_refused : (e : Refusal) → m ≡ Err e → GivesNext w tape begun behind (Err e)
+      pub pair_refused : (e : Refusal) → m ≡ Err e → GivesNext w begun behind (Err e)
       unfolding after_match GivesNext
-      pair_refused e f hits = pair_left hits ∙ rw f (run_stopped w e (drop next tape))
+      pair_refused e f hits = pair_left hits ∙ rw f (run_stopped w e left.now)
 
-      pub no_hit : m ≡ Ok None → Turn w tape begun behind
+      pub no_hit : m ≡ Ok None → Turn w begun behind
       unfolding after_match
-      no_hit f = record { fits = still_fits; forward = omega (arith, turn.forward, forward.0); rest = λ hits. pair_left hits ∙ rw f }
+      no_hit f = record { shorter = omega (arith, less); rest = λ hits. pair_left hits ∙ rw f }
 
-      pub a_hit : (d : Float) → m ≡ Ok (Some d) → GivesNext w tape begun behind (Ok (Some (record { first = i; second = j; apart = d })))
+      pub a_hit : (d : Float) → m ≡ Ok (Some d) → GivesNext w begun behind (Ok (Some (record { first = i; second = j; apart = d })))
       unfolding after_match GivesNext
-      a_hit d f = (omega (arith, turn.forward, forward.0), forward.1, λ hits. pair_left hits ∙ rw f)
+      a_hit d f = (less, λ hits. pair_left hits ∙ rw f)
+
+  pub tape_breaks : (begun r : Run) → Turn w begun r → Reads r.rest.now None → GivesNext w begun r (Err (no_side BrokenTape))
+  unfolding Reads GivesNext
+  tape_breaks begun r turn s hits = turn.rest hits ∙ run_breaks w _ r.rest.now s
 
 -- ---- from hit to hit
 
 -- with these hits so far, what is left gives what the whole gives
 pub record HitsSoFar (w : Workspaces) (tape : List ℕ) (r : Run) (count : ℕ) (already : List Hit) : Type 0 where
   pub counted : count ≡ length already
-  pub fits : RunFits tape r
-  pub rest : run_from w (going start_of_job) tape ≡ run_on w tape r already
-  pub few : count ≤ r.at
+  pub rest : run_from w (going start_of_job) tape ≡ run_on w r already
+  pub few : count + length r.rest.now ≤ length tape
 
--- a hit is found further on in the tape
-pub next_on : (w : Workspaces) (tape : List ℕ) (r r' : Run) (h : Hit) → GivesNext w tape r r' (Ok (Some h)) → (r.at < r'.at) × (r'.at ≤ length tape)
+-- a hit leaves less of the tape
+pub next_on : (w : Workspaces) (r r' : Run) (h : Hit) → GivesNext w r r' (Ok (Some h)) → length r'.rest.now < length r.rest.now
 unfolding GivesNext
-next_on w tape r r' h g = (g.0, g.1)
+next_on w r r' h g = g.0
 
 module _ (w : Workspaces) (tape : List ℕ) where
-  pub no_hits_yet : (r : Run) → r.limit ≡ positive_zero → r.at ≡ 0 → ((n : ℕ) → get_or r.places n 0 ≡ 0) → length r.places ≡ 256 → HitsSoFar w tape r 0 []
-  no_hits_yet r limit at places numbers =
-      record {
-        counted = refl;
-        fits = record { numbers = numbers; blobs = no_places tape r.places places };
-        rest = rw (limit, at, none_loaded tape r.places places);
-        few = omega arith;
-      }
+  pub no_hits_yet : (r : Run) → job_at r [] ≡ start_of_job → r.rest.now ≡ tape → HitsSoFar w tape r 0 []
+  no_hits_yet r start whole = record { counted = refl; rest = rw (start, whole); few = omega (arith, ap length whole) }
 
   module _ (r r' : Run) (count : ℕ) (already : List Hit) (so_far : HitsSoFar w tape r count already) (v : Workspaces) (same : SameLengths w v) where
-    pub one_hit_more : RunFits tape r' → (h : Hit) → GivesNext v tape r r' (Ok (Some h)) → HitsSoFar w tape r' (count + 1) (already ++ (h ∷ []))
+    pub one_hit_more : (h : Hit) → GivesNext v r r' (Ok (Some h)) → HitsSoFar w tape r' (count + 1) (already ++ (h ∷ []))
     unfolding GivesNext
-    one_hit_more fits h g =
+    one_hit_more h g =
         record {
           counted = simp length-append (omega (arith, so_far.counted));
-          fits = fits;
-          rest = so_far.rest ∙ same_run w v same _ _ ∙ g.2 already ∙ sym (same_run w v same _ _);
+          rest = so_far.rest ∙ same_run w v same _ _ ∙ g.1 already ∙ sym (same_run w v same _ _);
           few = omega (arith, so_far.few, g.0);
         }
 
-    pub run_at_end : GivesNext v tape r r' (Ok None) → run_from w (going start_of_job) tape ≡ going (job_at tape r' already)
+    pub run_at_end : GivesNext v r r' (Ok None) → run_from w (going start_of_job) tape ≡ going (job_at r' already)
     unfolding GivesNext
     run_at_end g = so_far.rest ∙ same_run w v same _ _ ∙ g already
 
-    pub run_refused : (e : Refusal) → GivesNext v tape r r' (Err e) → run_from w (going start_of_job) tape ≡ stopped e
+    pub run_refused : (e : Refusal) → GivesNext v r r' (Err e) → run_from w (going start_of_job) tape ≡ stopped e
     unfolding GivesNext
     run_refused e g = so_far.rest ∙ same_run w v same _ _ ∙ g already
 
 -- ---- what a run comes to
 
 module _ (w : Workspaces) (tape : List ℕ) where
-  pub kept_ended : (r : Run) (before after hits : List Hit) (n : ℕ) → run_from w (going start_of_job) tape ≡ going (job_at tape r hits) → n ≡ length hits → after ≡ placed (take (length before) hits) before → KeptOutcome (run_from w (going start_of_job) tape) before after (Ok n)
+  pub kept_ended : (r : Run) (before after hits : List Hit) (n : ℕ) → run_from w (going start_of_job) tape ≡ going (job_at r hits) → n ≡ length hits → after ≡ placed (take (length before) hits) before → KeptOutcome (run_from w (going start_of_job) tape) before after (Ok n)
   unfolding passed_of KeptBy
   kept_ended r before after hits n e count kept = record { answer = rw (e, count); hits = rw e kept }
 
@@ -171,10 +137,16 @@ module _ (w : Workspaces) (tape : List ℕ) where
   kept_refused e before after is = record { answer = rw is; hits = rw is tt }
 
   -- the hits are written, unless the run is refused
-  pub written_ended : (r : Run) (before after : HitLists) (hits : List Hit) → run_from w (going start_of_job) tape ≡ going (job_at tape r hits) → after ≡ stored before hits → StoredBy (run_from w (going start_of_job) tape) before after
+  pub written_ended : (r : Run) (before after : HitLists) (hits : List Hit) → run_from w (going start_of_job) tape ≡ going (job_at r hits) → after ≡ stored before hits → StoredBy (run_from w (going start_of_job) tape) before after
   unfolding StoredBy
   written_ended r before after hits e put = rw e put
 
   pub written_refused : (before after : HitLists) (e : Refusal) → run_from w (going start_of_job) tape ≡ stopped e → StoredBy (run_from w (going start_of_job) tape) before after
   unfolding StoredBy
   written_refused before after e is = rw is tt
+
+  -- no hit more: the run is at its end, or refused
+  pub written_all : (r r' : Run) (count : ℕ) (already : List Hit) → HitsSoFar w tape r count already → (v : Workspaces) → SameLengths w v → (o : Result (Option Hit) Refusal) → GivesNext v r r' o → ((h : Hit) → o ≡ Ok (Some h) → ⊥) → (before after : HitLists) → after ≡ stored before already → StoredBy (run_from w (going start_of_job) tape) before after
+  written_all r r' count already so_far v same (Ok None) g f before after put = written_ended r' before after already (run_at_end w tape r r' count already so_far v same g) put
+  written_all r r' count already so_far v same (Ok (Some h)) g f before after put = absurd (f h refl)
+  written_all r r' count already so_far v same (Err e) g f before after put = written_refused before after e (run_refused w tape r r' count already so_far v same e g)

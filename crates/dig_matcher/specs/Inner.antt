@@ -1,14 +1,13 @@
--- A tape read from a place on, a blob by its place in the tape, and the hits that a pass stores: for inner contracts only. Definitions only.
+-- A tape read command by command, the blobs that are loaded, and the hits that a pass stores: for inner contracts only. Definitions only.
 use Rattle.refusals.specs.declared.Reason.TheVariants.{NoSuchBlob}
-use Rattle.std.specs.Prelude.{ℕ, ◌+◌, ◌-◌, ◌<◌, ◌≤◌, ◌≡◌, true, cond, ◌⊎◌, ltb, eqb, length, take, drop, get_or, set, Float}
+use Rattle.std.specs.Prelude.{ℕ, ◌<◌, ◌≡◌, true, cond, ltb, length, take, drop, get_or, set, Float}
 use mathlib.Core.List.{List, [], ◌∷◌, ◌++◌, map, foldl}
 use Rattle.std.specs.Prelude.{Option, Some, None, Result, Ok, Err}
-use Rattle.std.proofs.Math.Seq.{slice}
+use Rattle.std.specs.Borrow.{Bor}
 use Rattle.std.specs.Float.Ieee.{le}
 use Rattle.refusals.specs.Checks.{first_of}
 use Rattle.refusals.specs.Table.{sided}
 use Rattle.refusals.specs.declared.Refusal.{Refusal}
-use Rattle.fields.specs.Fields.{u32_at}
 use Rattle.operands.specs.Operands.{Workspaces}
 use Rattle.outcomes.specs.Answers.{number, decided, blob, nothing, Report, answering, refused}
 use Rattle.outcomes.specs.Operations.{no_side, tolerance_checks, distance}
@@ -27,40 +26,29 @@ command_before c (unfinished cs part) = unfinished (c ∷ cs) part
 command_before c (ended cs) = ended (c ∷ cs)
 command_before c (unknown cs) = unknown (c ∷ cs)
 
--- the tape from at on starts with this command, and goes on at next
-pub record CommandAt (tape : List ℕ) (at : ℕ) (c : Command) (next : ℕ) : Type 0 where
-  pub forward : at < next
-  pub inside : next ≤ length tape
-  pub read : tape_of (drop at tape) ≡ command_before c (tape_of (drop next tape))
+-- a tape starts with this command, and this is left after it
+pub record Starts (tape : List ℕ) (c : Command) (rest : List ℕ) : Type 0 where
+  pub shorter : length rest < length tape
+  pub read : tape_of tape ≡ command_before c (tape_of rest)
 
--- a blob at its place in the tape: its length stands before it
-unfoldable pub blob_at : List ℕ → ℕ → List ℕ
-blob_at tape place = slice place (place + u32_at true tape (place - 4)) tape
+-- what is read of a tape: its first command, and what is left; none: it breaks there
+unfoldable pub Reads : List ℕ → Option (Step × Bor (List ℕ)) → Type 0
+Reads tape (Some (step.Load n s, rest)) = Starts tape (load n s.now) rest.now
+Reads tape (Some (step.Tolerance d, rest)) = Starts tape (tolerance d) rest.now
+Reads tape (Some (step.Pair i j, rest)) = Starts tape (pair i j) rest.now
+Reads tape (Some (step.End, rest)) = tape_of tape ≡ ended []
+Reads tape None = (is_broken (tape_of tape) ≡ true) × (commands_of (tape_of tape) ≡ [])
 
--- a place that has a blob
-pub record HasBlob (tape : List ℕ) (place : ℕ) : Type 0 where
-  pub after_length : 6 ≤ place
-  pub inside : place + u32_at true tape (place - 4) ≤ length tape
+-- ---- the blobs that are loaded
 
--- what a step says of the tape from at on; none: it breaks there
-unfoldable pub StepAt : List ℕ → ℕ → Option Step → Type 0
-StepAt tape at (Some (step.Load n start end)) = (n < 256) × HasBlob tape start × CommandAt tape at (load n (blob_at tape start)) end
-StepAt tape at (Some (step.Tolerance d next)) = CommandAt tape at (tolerance d) next
-StepAt tape at (Some (step.Pair i j next)) = (i < 256) × (j < 256) × CommandAt tape at (pair i j) next
-StepAt tape at (Some step.End) = tape_of (drop at tape) ≡ ended []
-StepAt tape at None = (is_broken (tape_of (drop at tape)) ≡ true) × (commands_of (tape_of (drop at tape)) ≡ [])
+-- a blob's bytes
+unfoldable pub blob_of : Option (Bor (List ℕ)) → Option (List ℕ)
+blob_of (Some b) = Some b.now
+blob_of None = None
 
--- ---- the blobs that are loaded, by their places: 0 where none is
-
-unfoldable pub blob_if : List ℕ → ℕ → Option (List ℕ)
-blob_if tape place = cond (eqb place 0) None (Some (blob_at tape place))
-
--- each number's place is 0 or has a blob
-pub record Places (tape places : List ℕ) : Type 0 where
-  pub each : (n : ℕ) → (get_or places n 0 ≡ 0) ⊎ HasBlob tape (get_or places n 0)
-
-abbrev pub loaded_at : List ℕ → List ℕ → ℕ → Option (List ℕ)
-loaded_at tape places n = blob_if tape (get_or places n 0)
+-- by number
+abbrev pub loaded_in : List (Option (Bor (List ℕ))) → ℕ → Option (List ℕ)
+loaded_in blobs n = blob_of (get_or blobs n None)
 
 -- ---- two numbers matched
 
@@ -128,23 +116,19 @@ pub record KeptOutcome (p : Progress) (before after : List Hit) (r : Result ℕ 
 
 -- ---- a run from hit to hit
 
-pub record RunFits (tape : List ℕ) (r : Run) : Type 0 where
-  pub numbers : length r.places ≡ 256
-  pub blobs : Places tape r.places
-
 -- the job that a run has come to with these hits
-abbrev pub job_at : List ℕ → Run → List Hit → Job
-job_at tape r hits = record { loaded = loaded_at tape r.places; limit = r.limit; hits = hits }
+abbrev pub job_at : Run → List Hit → Job
+job_at r hits = record { loaded = loaded_in r.blobs; limit = r.limit; hits = hits }
 
 -- what is left of the tape, run from there
-abbrev pub run_on : Workspaces → List ℕ → Run → List Hit → Progress
-run_on w tape r hits = run_from w (going (job_at tape r hits)) (drop r.at tape)
+abbrev pub run_on : Workspaces → Run → List Hit → Progress
+run_on w r hits = run_from w (going (job_at r hits)) r.rest.now
 
 -- the next hit is the next of the run's, the end is its end, and a refusal stops it
-unfoldable pub GivesNext : Workspaces → List ℕ → Run → Run → Result (Option Hit) Refusal → Type 0
-GivesNext w tape r r' (Ok (Some h)) = (r.at < r'.at) × (r'.at ≤ length tape) × ((hits : List Hit) → run_on w tape r hits ≡ run_on w tape r' (hits ++ (h ∷ [])))
-GivesNext w tape r r' (Ok None) = (hits : List Hit) → run_on w tape r hits ≡ going (job_at tape r' hits)
-GivesNext w tape r r' (Err e) = (hits : List Hit) → run_on w tape r hits ≡ stopped e
+unfoldable pub GivesNext : Workspaces → Run → Run → Result (Option Hit) Refusal → Type 0
+GivesNext w r r' (Ok (Some h)) = (length r'.rest.now < length r.rest.now) × ((hits : List Hit) → run_on w r hits ≡ run_on w r' (hits ++ (h ∷ [])))
+GivesNext w r r' (Ok None) = (hits : List Hit) → run_on w r hits ≡ going (job_at r' hits)
+GivesNext w r r' (Err e) = (hits : List Hit) → run_on w r hits ≡ stopped e
 
 -- one hit, after k others
 unfoldable pub with_hit : ℕ → Hit → HitLists → HitLists

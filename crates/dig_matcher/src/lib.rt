@@ -3,21 +3,19 @@
 // Undecided in its contracts are the order of the hits and what a job leaves in the workspaces, refused or not.
 //
 // 1. `tape`: the commands, read one by one from the tape's bytes.
-// 2. A run goes through the commands from hit to hit (`Run`). Blobs stay where they are in the tape; an array has their
-//    places.
+// 2. A run goes through the commands from hit to hit (`Run`). Blobs stay where they are in the tape.
 // 3. Nothing may be written before the whole tape is accepted, so hits are first kept in an array of the matcher's own.
 //    Where it holds all of them they are copied; else a second run writes them where they belong (`job`).
 #![tactic(auto)]
 
 mod tape;
 
-ghost use Rattle.std.specs.Prelude.{◌≡◌, ◌||◌, ◌⊎◌, eqb, ℕ, min, length, get_or};
-ghost use Rattle.ieee754.specs.MinMax.{positive_zero};
+ghost use Rattle.std.specs.Prelude.{◌≡◌, ℕ, None, [], min, length, get_or};
 ghost use Rattle.outcomes.specs.Answers.{answer_report};
 ghost use Rattle.outcomes.specs.Lent.{lent};
-ghost use Rattle.dig_matcher.specs.Job.{going, start_of_job, hit_lists, JobOutcome};
-ghost use Rattle.dig_matcher.specs.Inner.{blob_at, HasBlob, blob_if, reported_match, match_of};
-ghost use Rattle.dig_matcher.specs.Inner.{run_from, stored, with_hit, RunFits, GivesNext, KeptOutcome, StoredBy};
+ghost use Rattle.dig_matcher.specs.Job.{going, start_of_job, loaded_with, hit_lists, JobOutcome};
+ghost use Rattle.dig_matcher.specs.Inner.{blob_of, loaded_in, job_at, reported_match, match_of};
+ghost use Rattle.dig_matcher.specs.Inner.{run_from, stored, with_hit, GivesNext, KeptOutcome, StoredBy};
 
 use outcomes::Answer;
 use refusals::{Reason, Refusal, Side};
@@ -38,16 +36,8 @@ const KEPT: usize = 4096;
 // The numbers that blobs can be loaded under.
 const NUMBERS: usize = 256;
 
-// The blob at a place of the tape.
-fn blob_at(tape: &[u8], place: usize) -> &[u8]
-    requires { HasBlob tape.now place }
-    ensures { result.now ≡ blob_at tape.now place }
-{
-    let n = fields::u32_at(tape, place - 4, true) as usize;
-    &tape[place..place + n]
-}
-
-// How far apart two blobs are, if that is within a limit.
+// How far apart two blobs are, if that is within a limit. The answer's cases are taken apart here too, as the scope has
+// it of an operation.
 #[tactic(auto, unfolding(crate::specs::Inner::reported_match))]
 fn match_by(answer: Answer, limit: f64) -> Result<Option<f64>, Refusal>
     ensures { result ≡ reported_match limit (answer_report answer) }
@@ -59,47 +49,27 @@ fn match_by(answer: Answer, limit: f64) -> Result<Option<f64>, Refusal>
     }
 }
 
-// Whether one of two places has no blob.
-fn is_missing(a: usize, b: usize) -> bool
-    ensures { result ≡ (eqb a 0 || eqb b 0) }
-{
-    a == 0 || b == 0
-}
-
-// The blobs at two places, 0 where none is loaded: their distance by rule 1, if it is within the limit.
+// The blobs of two numbers, if they are loaded: their distance by rule 1, if it is within the limit.
 fn match_pair(
-    tape: &[u8],
-    a: usize,
-    b: usize,
+    first: Option<&[u8]>,
+    second: Option<&[u8]>,
     limit: f64,
     floats1: &mut [f64],
     table1: &mut [u32],
     floats2: &mut [f64],
     table2: &mut [u32],
 ) -> Result<Option<f64>, Refusal>
-    requires fact { (a ≡ 0) ⊎ HasBlob tape.now a }
-    requires fact_2 { (b ≡ 0) ⊎ HasBlob tape.now b }
     ensures { result ≡ match_of (lent floats1 table1 floats2 table2) limit
-        (blob_if tape.now a) (blob_if tape.now b) }
+        (blob_of first.entry) (blob_of second.entry) }
 {
-    let missing = is_missing(a, b);
-    let below = limit < 0.0;
-    if missing {
-        return Err(Reason::NoSuchBlob.of(Side::Neither));
+    match (first, second) {
+        (Some(_), Some(_)) if limit < 0.0 => Err(Reason::ToleranceBelowZero.of(Side::Neither)),
+        (Some(a), Some(b)) => {
+            let answer = st_3d_distance(a, b, 1, floats1, table1, floats2, table2);
+            match_by(answer, limit)
+        }
+        _ => Err(Reason::NoSuchBlob.of(Side::Neither)),
     }
-    if below {
-        return Err(Reason::ToleranceBelowZero.of(Side::Neither));
-    }
-    let answer = st_3d_distance(
-        blob_at(tape, a),
-        blob_at(tape, b),
-        1,
-        floats1,
-        table1,
-        floats2,
-        table2,
-    );
-    match_by(answer, limit)
 }
 
 // How many hits three lists hold: as many as the shortest.
@@ -133,13 +103,13 @@ fn put_hits(first: &mut [u16], second: &mut [u16], distances: &mut [f64], hits: 
 }
 
 // No blob is loaded. A function of its own, so that no proof looks into an array of this length.
-fn no_places() -> [usize; NUMBERS]
-    ensures by_index { (n : ℕ) → get_or result n 0 ≡ 0 }
-    ensures result_len { length result ≡ 256 }
+fn no_blobs<'a>() -> [Option<&'a [u8]>; NUMBERS]
+    ensures { loaded_in result ≡ (λ (n : ℕ). None) }
 {
-    [0usize; NUMBERS]
+    [None; NUMBERS]
 }
 
+// No hit is kept. Of its own for the same reason.
 fn no_hits() -> [Hit; KEPT]
     ensures { length result ≡ 4096 }
 {
@@ -150,74 +120,65 @@ fn no_hits() -> [Hit; KEPT]
     }; KEPT]
 }
 
-// A run through a tape: where the blob of each number starts in it, 0 where none is loaded; the tolerance; and where the
-// next command is.
-#[derive(Drop)]
-struct Run {
-    places: [usize; NUMBERS],
-    limit: f64,
-    at: usize,
+// A blob under a number, whatever was there.
+fn load<'a>(blobs: &mut [Option<&'a [u8]>; NUMBERS], number: u8, blob: &'a [u8])
+    ensures { loaded_in blobs.new ≡ loaded_with number blob.now (loaded_in blobs.old) }
+{
+    blobs[number as usize] = Some(blob);
 }
 
-impl Run {
-    fn start() -> Run
-        ensures { (result.limit ≡ positive_zero) × (result.at ≡ 0)
-            × ((n : ℕ) → get_or result.places n 0 ≡ 0) × (length result.places ≡ 256) }
+// A run through a tape: the blob of each number, if one is loaded; the tolerance; and what is left of the tape.
+#[derive(Drop)]
+struct Run<'a> {
+    blobs: [Option<&'a [u8]>; NUMBERS],
+    limit: f64,
+    rest: &'a [u8],
+}
+
+impl<'a> Run<'a> {
+    fn start(tape: &'a [u8]) -> Run<'a>
+        ensures job { job_at result [] ≡ start_of_job }
+        ensures rest { result.rest.now ≡ tape.now }
     {
         Run {
-            places: no_places(),
+            blobs: no_blobs(),
             limit: 0.0,
-            at: 0,
+            rest: tape,
         }
     }
 
     // The commands up to the next hit, or to the tape's end.
     fn next_hit(
         &mut self,
-        tape: &[u8],
         floats1: &mut [f64],
         table1: &mut [u32],
         floats2: &mut [f64],
         table2: &mut [u32],
     ) -> Result<Option<Hit>, Refusal>
-        requires { RunFits tape.now self.old }
-        ensures fits { RunFits tape.now self.new }
-        ensures next { GivesNext (lent floats1 table1 floats2 table2) tape.now self.old
-            self.new result }
+        ensures { GivesNext (lent floats1 table1 floats2 table2) self.old self.new result }
     {
-        while let Some(step) = read_command(tape, self.at) {
+        while let Some((step, rest)) = read_command(self.rest) {
+            self.rest = rest;
             match step {
                 Step::End => {
                     return Ok(None);
                 }
-                Step::Load { number, start, end } => {
-                    self.places[number as usize] = start;
-                    self.at = end;
+                Step::Load { number, blob } => {
+                    load(&mut self.blobs, number, blob);
                 }
-                Step::Tolerance { limit, next } => {
+                Step::Tolerance(limit) => {
                     self.limit = limit;
-                    self.at = next;
                 }
-                Step::Pair {
-                    first,
-                    second,
-                    next,
-                } => {
-                    let a = self.places[first as usize];
-                    let b = self.places[second as usize];
-                    self.at = next;
-                    let matched = match_pair(
-                        tape, a, b, self.limit, floats1, table1, floats2, table2,
-                    )?;
-                    match matched {
-                        None => {}
-                        Some(apart) => {
-                            return Ok(Some(Hit {
-                                first,
-                                second,
-                                apart,
-                            }));
-                        }
+                Step::Pair { first, second } => {
+                    let a = self.blobs[first as usize];
+                    let b = self.blobs[second as usize];
+                    let matched = match_pair(a, b, self.limit, floats1, table1, floats2, table2)?;
+                    if let Some(apart) = matched {
+                        return Ok(Some(Hit {
+                            first: u16::from(first),
+                            second: u16::from(second),
+                            apart,
+                        }));
                     }
                 }
             }
@@ -239,9 +200,9 @@ fn keep_hits(
     ensures { KeptOutcome (run_from (lent floats1 table1 floats2 table2) (going start_of_job) tape.now)
         kept.old kept.new result }
 {
-    let mut run = Run::start();
+    let mut run = Run::start(tape);
     let mut hits: usize = 0;
-    while let Some(hit) = run.next_hit(tape, floats1, table1, floats2, table2)? {
+    while let Some(hit) = run.next_hit(floats1, table1, floats2, table2)? {
         if hits < kept.len() {
             kept[hits] = hit;
         }
@@ -250,7 +211,8 @@ fn keep_hits(
     Ok(hits)
 }
 
-// The hits of a tape that is accepted, where they belong.
+// The hits of a tape that is accepted, where they belong. The loop of `keep_hits` again: that one hands a refusal on
+// and keeps what fits, and this one meets neither; one loop for both would take a closure that borrows three lists.
 fn write_hits(
     tape: &[u8],
     floats1: &mut [f64],
@@ -265,21 +227,11 @@ fn write_hits(
         (hit_lists first.old second.old distances.old)
         (hit_lists first.new second.new distances.new) }
 {
-    let mut run = Run::start();
+    let mut run = Run::start(tape);
     let mut hits: usize = 0;
-    loop {
-        match run.next_hit(tape, floats1, table1, floats2, table2) {
-            Ok(None) => {
-                return;
-            }
-            Err(_) => {
-                return;
-            }
-            Ok(Some(hit)) => {
-                put_hit(first, second, distances, hits, hit);
-                hits += 1;
-            }
-        }
+    while let Ok(Some(hit)) = run.next_hit(floats1, table1, floats2, table2) {
+        put_hit(first, second, distances, hits, hit);
+        hits += 1;
     }
 }
 

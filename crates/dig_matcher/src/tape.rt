@@ -1,94 +1,74 @@
 // A tape's commands, read one by one from its bytes.
-ghost use Rattle.std.specs.Prelude.{◌≡◌, ◌<◌, length, get_or};
-ghost use Rattle.dig_matcher.specs.Inner.{StepAt};
+ghost use Rattle.std.specs.Prelude.{◌∷◌};
+ghost use Rattle.dig_matcher.specs.Inner.{Reads};
 
 use fields::{f64_at, u32_at};
 
-// A command, and where the next one starts: of a blob that is loaded, where it starts and where it ends.
+// A command: a blob to be loaded under a number, a tolerance, two numbers to be matched, or the end.
 #[derive(Clone, Copy)]
-pub enum Step {
-    Load {
-        number: u16,
-        start: usize,
-        end: usize,
-    },
-    Tolerance {
-        limit: f64,
-        next: usize,
-    },
-    Pair {
-        first: u16,
-        second: u16,
-        next: usize,
-    },
+pub enum Step<'a> {
+    Load { number: u8, blob: &'a [u8] },
+    Tolerance(f64),
+    Pair { first: u8, second: u8 },
     End,
 }
 
 // 01: a number, a length, and as many bytes.
-fn read_load(tape: &[u8], at: usize) -> Option<Step>
-    requires at_in_bounds { at < length tape.now }
-    requires at_value { get_or tape.now at 0 ≡ 1 }
-    ensures { StepAt tape.now at result }
+#[tactic(auto, using(crate::proofs::TapeLaws::loads), unfolding(crate::specs::Inner::Reads))]
+fn read_load(operands: &[u8]) -> Option<(Step<'_>, &[u8])>
+    ensures { Reads (1 ∷ operands.now) result }
 {
-    if tape.len() - at < 6 {
+    let [number, _, _, _, _, rest @ ..] = operands else {
         return None;
-    }
-    let start = at + 6;
-    let n = u32_at(tape, at + 2, true) as usize;
-    if tape.len() - start < n {
-        return None;
-    }
-    Some(Step::Load {
-        number: u16::from(tape[at + 1]),
-        start,
-        end: start + n,
-    })
+    };
+    let (blob, rest) = rest.split_at_checked(u32_at(operands, 1, true) as usize)?;
+    Some((
+        Step::Load {
+            number: *number,
+            blob,
+        },
+        rest,
+    ))
 }
 
 // 02: a float.
-fn read_tolerance(tape: &[u8], at: usize) -> Option<Step>
-    requires at_in_bounds { at < length tape.now }
-    requires at_value { get_or tape.now at 0 ≡ 2 }
-    ensures { StepAt tape.now at result }
+#[tactic(auto, using(crate::proofs::TapeLaws::tolerances), unfolding(crate::specs::Inner::Reads))]
+fn read_tolerance(operands: &[u8]) -> Option<(Step<'_>, &[u8])>
+    ensures { Reads (2 ∷ operands.now) result }
 {
-    if tape.len() - at < 9 {
-        return None;
-    }
-    Some(Step::Tolerance {
-        limit: f64_at(tape, at + 1, true),
-        next: at + 9,
-    })
+    let (limit, rest) = operands.split_at_checked(8)?;
+    Some((Step::Tolerance(f64_at(limit, 0, true)), rest))
 }
 
 // 03: two numbers.
-fn read_pair(tape: &[u8], at: usize) -> Option<Step>
-    requires at_in_bounds { at < length tape.now }
-    requires at_value { get_or tape.now at 0 ≡ 3 }
-    ensures { StepAt tape.now at result }
+#[tactic(auto, using(crate::proofs::TapeLaws::pairs), unfolding(crate::specs::Inner::Reads))]
+fn read_pair(operands: &[u8]) -> Option<(Step<'_>, &[u8])>
+    ensures { Reads (3 ∷ operands.now) result }
 {
-    if tape.len() - at < 3 {
+    let [first, second, rest @ ..] = operands else {
         return None;
-    }
-    Some(Step::Pair {
-        first: u16::from(tape[at + 1]),
-        second: u16::from(tape[at + 2]),
-        next: at + 3,
-    })
+    };
+    Some((
+        Step::Pair {
+            first: *first,
+            second: *second,
+        },
+        rest,
+    ))
 }
 
-// The command at a place of the tape; none where the tape breaks there, or ends before 04.
-pub fn read_command(tape: &[u8], at: usize) -> Option<Step>
-    ensures { StepAt tape.now at result }
+// A tape's first command, and what is left of the tape after it; none where the tape breaks there, or ends before 04.
+// The commands' numbers stand in this one match, which makes values of them: as an enum they would be matched twice.
+#[tactic(auto, using(crate::proofs::TapeLaws::commands), unfolding(crate::specs::Inner::Reads))]
+pub fn read_command(tape: &[u8]) -> Option<(Step<'_>, &[u8])>
+    ensures { Reads tape.now result }
 {
-    if tape.len() <= at {
-        return None;
-    }
-    let command = tape[at];
-    match command {
-        1 => read_load(tape, at),
-        2 => read_tolerance(tape, at),
-        3 => read_pair(tape, at),
-        4 => Some(Step::End),
+    let (command, operands) = tape.split_first()?;
+    match *command {
+        1 => read_load(operands),
+        2 => read_tolerance(operands),
+        3 => read_pair(operands),
+        4 => Some((Step::End, operands)),
         _ => None,
     }
 }

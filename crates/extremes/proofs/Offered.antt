@@ -21,9 +21,13 @@ module _ {order beats : Float → Float → Bool} (ρ : RootSense order beats) w
   sum_not_better sum (Some best) s w h f l r = unbeaten_stays beats (Some best) w (rw (r, h.kept) (ρ.roots s sum f h.fitting l))
 
   module _ (sum : Float) (best : Witness) (s : Float) (w : Witness) (h : Sound sum (Some best)) (f : T (fits binary64 s)) (r : w.d ≡ root_of s) where
-    -- the same root: the best with the later sum, which spares the roots of more sums
-    pub sum_renewed : order s sum ≡ false → eq w.d best.d ≡ true → Sound s (Some best)
-    sum_renewed l e = record { kept = h.kept ∙ sym (ρ.equal s sum f h.fitting l (rw (r, h.kept) at e)); fitting = f }
+    -- a root that compares equal, of a sum out of order: the later sum is the best's too
+    pub equal_sum_sound : order s sum ≡ false → eq w.d best.d ≡ true → Sound s (Some best)
+    equal_sum_sound l e = record { kept = h.kept ∙ sym (ρ.equal s sum f h.fitting l (rw (r, h.kept) at e)); fitting = f }
+
+-- the same root: the best with the later sum, which spares the roots of more sums
+pub sum_renewed : (beats : Float → Float → Bool) (best w : Witness) (s : Float) → T (fits binary64 s) → w.d ≡ root_of s → beats best.d w.d ≡ false → w.d ≡ best.d → (taking beats (Some best) w ≡ Some best) × Sound s (Some best)
+sum_renewed beats best w s f r l q = (unbeaten_stays beats (Some best) w l, record { kept = sym q ∙ r; fitting = f })
 
 -- w as the best, with s
 pub new_sound : (s : Float) (w : Witness) → T (fits binary64 s) → w.d ≡ root_of s → Sound s (Some w)

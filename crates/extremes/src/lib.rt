@@ -1,4 +1,5 @@
-// The best pair so far. All pairs, the first extreme pair and the sweeps that skip are definitions (specs/) with their laws (proofs/).
+// The best pair so far. All pairs, the first extreme pair and the sweeps that skip are definitions (specs/) with their
+// laws (proofs/).
 #![tactic(auto)]
 
 ghost use Rattle.std.specs.Prelude.{◌≡◌, Float, Bool, true, None};
@@ -85,8 +86,10 @@ impl Sense for Farthest {
     }
 }
 
-// The best witness so far, if there is one, and the sum of squares that its distance is the root of. While there is none, the sum is NaN.
-// A distance below 0 stands for none: an `Option` is copied in pieces, its flag apart from the witness, and small calls are slower.
+// The best witness so far, if there is one, and the sum of squares that its distance is the root of. While there is
+// none, the sum is NaN.
+// A distance below 0 stands for none: an `Option` is copied in pieces, its flag apart from the witness, and small calls
+// are slower.
 #[derive(Drop)]
 pub struct Best<S> {
     sum: f64,
@@ -127,35 +130,29 @@ impl<S: Sense> Best<S> {
         }
     }
 
-    // The better of the best and the witness of s: the first witness is taken, a later one only if its distance beats the best's.
-    // Of equal distances the first witness stays, with the later sum: another witness of that sum is then excluded, and its root not taken.
-    pub fn offer(self, s: UnrootedWitness) -> Self
-        ensures value { result ≡ taking S.beats self (rooted_of s) }
-        ensures fits { BestFits self }
+    // The better of the best and the witness of s: the first witness is taken, a later one only if its distance beats
+    // the best's.
+    // Of equal distances the first witness stays, with the later sum: another witness of that sum is then excluded, and
+    // its root not taken.
+    pub fn offer(&mut self, s: UnrootedWitness)
+        ensures value { self.new ≡ taking S.beats self.old (rooted_of s) }
+        ensures fits { BestFits self.old }
     {
         let sum = s.sum;
         if S::in_order(sum, self.sum) {
-            return self;
+            return;
         }
         let w = s.rooted();
         let first = self.witness;
         if first.d < 0.0 {
-            return Best {
-                sum,
-                witness: w,
-                sense: PhantomData,
-            };
+            self.sum = sum;
+            self.witness = w;
+            return;
         }
-        let kept = if S::beats(first.d, w.d) || w.d == first.d {
-            sum
-        } else {
-            self.sum
-        };
-        Best {
-            sum: kept,
-            witness: S::better(first, w),
-            sense: PhantomData,
+        if S::beats(first.d, w.d) || w.d == first.d {
+            self.sum = sum;
         }
+        self.witness = S::better(first, w);
     }
 
     // Whether no witness whose distance is the root of that sum changes the best. No root is taken.
@@ -212,7 +209,8 @@ impl Best<Closest> {
     }
 }
 
-// 1 + 2^-49
+// 1 + 2^-49. The test by it stays apart from the one above: as one, a sense would have to name the slack, the order of
+// the squares and the scope's definition, for one caller each.
 const ONE_PLUS_SLACK: f64 = 1.0000000000000017763568394002504646778106689453125;
 
 impl Best<Farthest> {

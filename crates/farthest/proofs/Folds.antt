@@ -84,3 +84,11 @@ module _ (box : Aabb) (rs : List Point) (best : Option Witness) where
   pub swept_last_run : (runs : List (List Point)) → runs ≡ [] → swept box rs best (flatten runs) ≡ best
   unfolding flatten
   swept_last_run runs e = swept_end (flatten runs) (rw e)
+
+-- ---- what each loop takes at a turn
+
+pub ruleset from_turns = (from_next, from_end, from_next_run, from_last_run)
+
+pub ruleset box_turns = (box_next, box_end, box_next_run, box_last_run)
+
+pub ruleset swept_turns = (swept_next, swept_end, swept_next_run, swept_last_run)

@@ -21,3 +21,5 @@ module _ (class : Class) (rs : List (Run Point)) where
   pub runs_passed : rs ≡ [] → class_runs class rs ≡ []
   unfolding class_runs
   runs_passed e = rw e
+
+pub ruleset run_turns = (run_taken, run_passed, runs_passed)

@@ -10,6 +10,7 @@ use Rattle.primitives.specs.Boxes.{box_of_point, greatest_squared_gap}
 use Rattle.extremes.specs.Sweeps.{skipping}
 use Rattle.extremes.specs.Farthest.{no_longer, no_farther, farthest_from}
 use Rattle.farthest.specs.Inner.{swept}
+use Rattle.farthest.proofs.NanStays.{nan_swept}
 
 module _ (box : Aabb) (rs : List Point) (best : Option Witness) (p : Point) where
   pub visit_skipped : no_longer best (greatest_squared_gap (box_of_point p) box) ≡ true → swept box rs best (p ∷ []) ≡ best
@@ -19,3 +20,5 @@ module _ (box : Aabb) (rs : List Point) (best : Option Witness) (p : Point) wher
   pub visit_made : no_longer best (greatest_squared_gap (box_of_point p) box) ≡ false → swept box rs best (p ∷ []) ≡ farthest_from rs best p
   unfolding swept skipping no_farther
   visit_made e = rw e
+
+pub ruleset visits = (nan_swept, visit_skipped, visit_made)

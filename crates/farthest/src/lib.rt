@@ -1,13 +1,16 @@
-// The farthest sweep: a vertex of side 1 and one of side 2 that are farthest apart, by plain loops over the runs of two workspaces.
+// The farthest sweep: a vertex of side 1 and one of side 2 that are farthest apart, by plain loops over the runs of two
+// workspaces.
 //
 // 1. The box of all vertices of side 2 is made (`bounds`).
-// 2. Each vertex of side 1 meets each vertex of side 2 (`visit`). Both go class by class, points, lines, faces, and in a class run by run
-//    (`VertexRuns`). The first pair is taken, a later one only if strictly longer.
+// 2. Each vertex of side 1 meets each vertex of side 2 (`visit`). Both go class by class, points, lines, faces, and in
+//    a class run by run (`VertexRuns`). The first pair is taken, a later one only if strictly longer.
 // 3. Left out, since no answer changes by it (laws in proofs/ and in extremes):
-//    - a vertex of side 1 whose greatest squared gap to the box, times 1 + 2^-49 for what rounding may take, is at most the best's square
-//      (`no_farther`; Unskipped), and every vertex once the best is NaN, since nothing is longer than NaN (`visit`; NanStays);
+//    - a vertex of side 1 whose greatest squared gap to the box, times 1 + 2^-49 for what rounding may take, is at most
+//      the best's square (`no_farther`; Unskipped), and every vertex once the best is NaN, since nothing is longer than
+//      NaN (`visit`; NanStays);
 //    - the root of a sum of squares that is no greater than the best's, whose root is no greater either (`visit`);
-//    - what the definition meets twice: each inner vertex of a line, the end of one segment and the start of the next (VerticesOnce);
+//    - what the definition meets twice: each inner vertex of a line, the end of one segment and the start of the next
+//      (VerticesOnce);
 //    - the runs before the first of a class, and so classes that do not occur (`ClassRuns::of`).
 #![tactic(auto)]
 
@@ -49,8 +52,9 @@ impl<'a> Model for ClassRuns<'a> {
 }
 
 impl<'a> ClassRuns<'a> {
-    // Those of a workspace. What is before the first is passed over here once, and not at each vertex of the other side.
-    #[tactic(auto, using(crate::proofs::RunTurns::run_taken, crate::proofs::RunTurns::run_passed, crate::proofs::RunTurns::runs_passed))]
+    // Those of a workspace. What is before the first is passed over here once, and not at each vertex of the other
+    // side.
+    #[tactic(auto, using(crate::proofs::RunTurns::run_turns))]
     fn of(stored: &Stored<'a>, class: Class) -> ClassRuns<'a>
         ensures { result ≡ class_runs class stored.now }
     {
@@ -65,7 +69,7 @@ impl<'a> ClassRuns<'a> {
         ClassRuns { class, runs }
     }
 
-    // The same runs, to be walked again.
+    // The same runs, to be walked again; no `Clone`, as of `parts::Runs`.
     fn again(&self) -> ClassRuns<'a>
         ensures { result ≡ self.now }
     {
@@ -83,7 +87,7 @@ impl<'a> Iterator for ClassRuns<'a> {
 
     ghost remaining = { item_count (λ s. s) };
 
-    #[tactic(auto, using(crate::proofs::RunTurns::run_taken, crate::proofs::RunTurns::run_passed, crate::proofs::RunTurns::runs_passed))]
+    #[tactic(auto, using(crate::proofs::RunTurns::run_turns))]
     fn next(&mut self) -> Option<Points<'a>> {
         while let Some(run) = self.runs.next() {
             if has_vertices(&run, self.class) {
@@ -123,7 +127,7 @@ impl<'a> VertexRuns<'a> {
         }
     }
 
-    // The same runs, to be walked again.
+    // The same runs, to be walked again; no `Clone`, as of `parts::Runs`.
     fn again(&self) -> VertexRuns<'a>
         ensures { result ≡ self.now }
     {
@@ -135,7 +139,7 @@ impl<'a> VertexRuns<'a> {
     }
 
     // The box of all vertices; of none, the box of NaNs, which every point replaces.
-    #[tactic(auto, using(crate::proofs::Folds::box_next, crate::proofs::Folds::box_end, crate::proofs::Folds::box_next_run, crate::proofs::Folds::box_last_run), unfolding(crate::specs::Inner::empty_box))]
+    #[tactic(auto, using(crate::proofs::Folds::box_turns), unfolding(crate::specs::Inner::empty_box))]
     fn bounds(&self) -> Aabb
         ensures { result ≡ box_with empty_box (flatten self.now) }
     {
@@ -172,32 +176,31 @@ impl<'a> Iterator for VertexRuns<'a> {
     }
 }
 
-// One vertex of side 1 against side 2, unless it is skipped: no vertex in the box is farther from p than the best pair is apart.
-// Nothing is longer than NaN, so a NaN best stays. No root is taken where the sum of squares is no greater than the best pair's.
-#[tactic(auto, using(crate::proofs::NanStays::nan_swept, crate::proofs::Visits::visit_skipped, crate::proofs::Visits::visit_made, crate::proofs::Folds::from_next, crate::proofs::Folds::from_end, crate::proofs::Folds::from_next_run, crate::proofs::Folds::from_last_run))]
-fn visit(best: Best<Farthest>, p: Point, others: &VertexRuns<'_>, around: Aabb) -> Best<Farthest>
-    ensures { result ≡ swept around (flatten others.now) best (p ∷ []) }
+// One vertex of side 1 against side 2, unless it is skipped: no vertex in the box is farther from p than the best pair
+// is apart. Nothing is longer than NaN, so a NaN best stays. No root is taken where the sum of squares is no greater
+// than the best pair's.
+#[tactic(auto, using(crate::proofs::Visits::visits, crate::proofs::Folds::from_turns))]
+fn visit(best: &mut Best<Farthest>, p: Point, others: &VertexRuns<'_>, around: Aabb)
+    ensures { best.new ≡ swept around (flatten others.now) best.old (p ∷ []) }
 {
     if best.is_nan() {
-        return best;
+        return;
     }
     if best.no_farther(Aabb::point(p).max_dist_sq(around)) {
-        return best;
+        return;
     }
-    let mut best = best;
     for points in others.again() {
         for q in points {
             let pair = UnrootedWitness::between(p, q);
             if !best.excludes(pair.sum) {
-                best = best.offer(pair);
+                best.offer(pair);
             }
         }
     }
-    best
 }
 
 // The farthest pair of a vertex of side 1 and one of side 2, if both have one.
-#[tactic(auto, using(crate::proofs::Folds::swept_next, crate::proofs::Folds::swept_end, crate::proofs::Folds::swept_next_run, crate::proofs::Folds::swept_last_run, crate::proofs::VerticesOnce::farthest_by_runs))]
+#[tactic(auto, using(crate::proofs::Folds::swept_turns, crate::proofs::VerticesOnce::farthest_by_runs))]
 pub fn farthest(a: &Stored<'_>, b: &Stored<'_>) -> Option<Witness>
     ensures { result ≡ farthest_of (vertices_of a.now) (vertices_of b.now) }
 {
@@ -206,7 +209,7 @@ pub fn farthest(a: &Stored<'_>, b: &Stored<'_>) -> Option<Witness>
     let mut best = Best::none();
     for points in VertexRuns::of(a) {
         for p in points {
-            best = visit(best, p, &others, around);
+            visit(&mut best, p, &others, around);
         }
     }
     best.witness()

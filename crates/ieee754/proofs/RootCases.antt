@@ -12,7 +12,8 @@ use lib.Ieee.Positive.{positive}
 use lib.IntN.{ℤ}
 use Rattle.ieee754.specs.Root.{units_of, root_of}
 use Rattle.ieee754.specs.InnerRoot.{units_of_pattern, root_pattern, PositiveFinite}
-use Rattle.ieee754.proofs.PatternValues.{units_of_float, positive_finite_pattern}
+use Rattle.ieee754.proofs.FloatOrder.{le_number_right_test}
+use Rattle.ieee754.proofs.PatternValues.{units_of_float, positive_finite_pattern, finite_pattern_no_nan}
 
 pub root_of_positive : (s : Float) → T (positive s) → of_bits binary64 (root_pattern (units_of s)) ≡ root_of s
 unfolding root_of
@@ -67,6 +68,12 @@ positive_from_tests s h k = rw (positive_by_tests s, h, k) tt
 
 pub pattern_from_tests : (s : Float) → fits binary64 s ≡ true → lt (of_bits binary64 0) s ≡ true → lt s (of_bits binary64 0x7ff0_0000_0000_0000) ≡ true → PositiveFinite (to_bits binary64 s)
 pattern_from_tests s f h k = positive_finite_pattern s (subst T (sym f) tt) (positive_from_tests s h k)
+
+-- what `guess_root` needs: its radicand's pattern is finite, and what is at least 1 is no NaN
+pub ruleset guesses = (finite_pattern_no_nan, le_number_right_test)
+
+-- what `root` needs: two tests find a positive finite number, and the pattern of its root is finite
+pub ruleset finds = (pattern_from_tests, finite_pattern_no_nan)
 
 pub root_from_tests : (s : Float) → fits binary64 s ≡ true → lt (of_bits binary64 0) s ≡ true → lt s (of_bits binary64 0x7ff0_0000_0000_0000) ≡ true → of_bits binary64 (root_pattern (units_of_pattern (to_bits binary64 s))) ≡ root_of s
 root_from_tests s f h k = root_of_positive_pattern s (subst T (sym f) tt) (positive_from_tests s h k)

@@ -9,7 +9,8 @@ ghost use Rattle.ieee754.specs.MinMax.{minimum_of, maximum_of, clamp_of, absolut
 ghost use Rattle.ieee754.specs.Root.{root_of, IsRoot};
 ghost use Rattle.ieee754.specs.Digits.{digits_needed};
 ghost use Rattle.ieee754.specs.InnerRoot.{RootDigits, DigitTurns, trial_of};
-ghost use Rattle.ieee754.specs.InnerRoot.{PositiveFinite, Normalized, EvenExponent, units_of_pattern, root_pattern, rounded_root};
+ghost use Rattle.ieee754.specs.InnerRoot.{PositiveFinite, Normalized, EvenExponent};
+ghost use Rattle.ieee754.specs.InnerRoot.{units_of_pattern, root_pattern, rounded_root};
 
 // A significand's binary digits.
 const DIGITS: u32 = f64::MANTISSA_DIGITS;
@@ -36,6 +37,27 @@ const NAN_PATTERN: u64 = 0x7ff8_0000_0000_0000;
 
 const SIGN: u64 = 1 << 63;
 
+// The pattern of a positive finite number.
+#[derive(Clone, Copy)]
+struct Positive {
+    bits: u64,
+    ghost finite: { PositiveFinite bits },
+}
+
+// A number's significand of 53 binary digits, or twice that.
+#[derive(Clone, Copy)]
+struct Significand {
+    digits: u64,
+    ghost few: { digits < 2 ^ 54 },
+}
+
+// A significand, and the exponent of what it is multiplied by.
+#[derive(Clone, Copy)]
+struct Scaled {
+    significand: Significand,
+    exponent: u64,
+}
+
 // A whole root and its remainder.
 #[derive(Clone, Copy)]
 struct IntegerRoot {
@@ -50,16 +72,15 @@ struct CountedRoot {
     turns: u32,
 }
 
-// The whole root of m * 2^52, digit by digit, and the remainder. It ends once nothing remains: the remainder is 0 and no
-// 1 of the radicand is left, so that all further digits are 0.
-fn root_digits(m: u64) -> CountedRoot
-    requires { m < 2 ^ 54 }
-    ensures root { RootDigits m result.root.digits result.root.remainder }
-    ensures turns { DigitTurns m result.root.digits result.turns }
+// The whole root of m * 2^52, digit by digit, and the remainder. It ends once nothing remains: the remainder is 0 and
+// no 1 of the radicand is left, so that all further digits are 0.
+fn root_digits(m: Significand) -> CountedRoot
+    ensures root { RootDigits m.digits result.root.digits result.root.remainder }
+    ensures turns { DigitTurns m.digits result.root.digits result.turns }
 {
     let mut q = 0u64;
     let mut rest = 0u64;
-    let mut radicand = m;
+    let mut radicand = m.digits;
     for turns in 0..DIGITS {
         if rest == 0 && radicand == 0 {
             let root = IntegerRoot {
@@ -87,10 +108,11 @@ fn root_digits(m: u64) -> CountedRoot
     }
 }
 
-// Tries q as the whole root of m * 2^52, exactly: the remainder if it is. The square goes by halves of 27 binary digits.
-fn try_root(m: u64, q: u64) -> Option<u64>
-    requires { (m < 2 ^ 54) × (q < 2 ^ 53) }
-    ensures { result ≡ trial_of m q }
+// Tries q as the whole root of m * 2^52, exactly: the remainder if it is. The square goes by halves of 27 binary
+// digits.
+fn try_root(m: Significand, q: u64) -> Option<u64>
+    requires { q < 2 ^ 53 }
+    ensures { result ≡ trial_of m.digits q }
 {
     let a = q / HALF;
     let b = q % HALF;
@@ -99,11 +121,11 @@ fn try_root(m: u64, q: u64) -> Option<u64>
     let bb = b * b;
     let hi = aa + ab / HALF;
     let lo = ab % HALF * HALF + bb;
-    let top = m / 4;
+    let top = m.digits / 4;
     if top < hi || 8 <= top - hi {
         return None;
     }
-    let left = (top - hi) * (4 * FIRST_DIGIT) + m % 4 * FIRST_DIGIT;
+    let left = (top - hi) * (4 * FIRST_DIGIT) + m.digits % 4 * FIRST_DIGIT;
     if left < lo || 2 * q < left - lo {
         return None;
     }
@@ -112,15 +134,14 @@ fn try_root(m: u64, q: u64) -> Option<u64>
 
 // A guess at the whole root of m * 2^52, by Newton's method on floats. It is a hint only: `try_root` checks it exactly,
 // and where it fails `root_digits` answers. So nothing is promised of it but its range.
-#[tactic(auto, using(crate::proofs::PatternValues::finite_pattern_no_nan, crate::proofs::FloatOrder::le_number_right_test))]
-fn guess_root(m: u64) -> u64
-    requires { m < 2 ^ 54 }
+#[tactic(auto, using(crate::proofs::RootCases::guesses))]
+fn guess_root(m: Significand) -> u64
     ensures { (2 ^ 52 ≤ result) × (result < 2 ^ 53) }
 {
-    let b = if m < 2 * FIRST_DIGIT {
-        m + EXPONENT_OF_HALF
+    let b = if m.digits < 2 * FIRST_DIGIT {
+        m.digits + EXPONENT_OF_HALF
     } else {
-        m / 2 + EXPONENT_OF_ONE
+        m.digits / 2 + EXPONENT_OF_ONE
     };
     let x = f64::from_bits(b);
     let mut y = f64::from_bits(GUESS_FROM - b / 2);
@@ -138,9 +159,8 @@ fn guess_root(m: u64) -> u64
 
 // The whole root of m * 2^52 and the remainder: the guess or one less, if a trial says so, else digit by digit.
 #[tactic(auto, using(crate::proofs::TrialSquare::root_of_trial))]
-fn integer_root(m: u64) -> IntegerRoot
-    requires { m < 2 ^ 54 }
-    ensures { RootDigits m result.digits result.remainder }
+fn integer_root(m: Significand) -> IntegerRoot
+    ensures { RootDigits m.digits result.digits result.remainder }
 {
     let digits = guess_root(m);
     if let Some(remainder) = try_root(m, digits) {
@@ -153,30 +173,24 @@ fn integer_root(m: u64) -> IntegerRoot
     root_digits(m).root
 }
 
-// A significand, and the exponent of what it is multiplied by.
-#[derive(Clone, Copy)]
-struct Scaled {
-    digits: u64,
-    exponent: u64,
-}
-
 // The number of pattern b is digits * 2^(exponent - 52) units of 2^-1074. A subnormal number is shifted left.
 #[tactic(auto, using(crate::proofs::Normalization::normal_is_normalized))]
-fn normalized(b: u64) -> Scaled
-    requires { PositiveFinite b }
-    ensures { Normalized b result.digits result.exponent }
+fn normalized(b: Positive) -> Scaled
+    ensures { Normalized b.bits result.significand.digits result.exponent }
 {
-    let x = b / FIRST_DIGIT;
-    let fraction = b % FIRST_DIGIT;
+    let x = b.bits / FIRST_DIGIT;
+    let fraction = b.bits % FIRST_DIGIT;
     if x == 0 {
         let shift = fraction.leading_zeros() - FIRST_DIGIT.leading_zeros();
+        let digits = fraction << shift;
         Scaled {
-            digits: fraction << shift,
+            significand: Significand { digits },
             exponent: 52 - shift as u64,
         }
     } else {
+        let digits = fraction + FIRST_DIGIT;
         Scaled {
-            digits: fraction + FIRST_DIGIT,
+            significand: Significand { digits },
             exponent: x + 51,
         }
     }
@@ -184,14 +198,14 @@ fn normalized(b: u64) -> Scaled
 
 // The number of pattern b as digits * 2^52 times an even power of two, whose root has the exponent.
 #[tactic(auto, using(crate::proofs::Normalization::either_exponent))]
-fn radicand_of(b: u64) -> Scaled
-    requires { PositiveFinite b }
-    ensures { EvenExponent b result.digits result.exponent }
+fn radicand_of(b: Positive) -> Scaled
+    ensures { EvenExponent b.bits result.significand.digits result.exponent }
 {
     let n = normalized(b);
     let g = n.exponent + 1022;
+    let digits = n.significand.digits << (g % 2);
     Scaled {
-        digits: n.digits << (g % 2),
+        significand: Significand { digits },
         exponent: g / 2 - 26,
     }
 }
@@ -210,22 +224,22 @@ fn rounded(exponent: u64, root: IntegerRoot) -> u64
 }
 
 // The pattern of the root of the number of pattern b.
-fn root_pattern(b: u64) -> u64
-    requires { PositiveFinite b }
-    ensures { (result ≡ root_pattern (units_of_pattern b)) × (result < 2047 * 2 ^ 52) }
+fn root_pattern(b: Positive) -> u64
+    ensures { (result ≡ root_pattern (units_of_pattern b.bits)) × (result < 2047 * 2 ^ 52) }
 {
     let n = radicand_of(b);
-    rounded(n.exponent, integer_root(n.digits))
+    rounded(n.exponent, integer_root(n.significand))
 }
 
 // The square root, rounded once to the nearest: for every s, and of a positive finite s in document 01's own words.
-#[tactic(auto, using(crate::proofs::RootCases::pattern_from_tests, crate::proofs::PatternValues::finite_pattern_no_nan))]
+#[tactic(auto, using(crate::proofs::RootCases::finds))]
 pub fn root(s: f64) -> f64
     ensures of_every { result ≡ root_of s }
     ensures of_positive { T (positive s) → IsRoot s result }
 {
     if 0.0 < s && s < f64::INFINITY {
-        f64::from_bits(root_pattern(s.to_bits()))
+        let bits = s.to_bits();
+        f64::from_bits(root_pattern(Positive { bits }))
     } else if s < 0.0 {
         f64::NAN
     } else {
@@ -241,28 +255,28 @@ pub struct RootAndDigits {
 }
 
 // The root of the number of pattern b by the digit loop, whose count of turns is that of the digits.
-fn root_by_digits(b: u64) -> RootAndDigits
-    requires { PositiveFinite b }
-    ensures root { result.root ≡ of_bits binary64 (root_pattern (units_of_pattern b)) }
-    ensures digits { result.digits ≡ digits_needed (of_bits binary64 b) }
+fn root_by_digits(b: Positive) -> RootAndDigits
+    ensures root { result.root ≡ of_bits binary64 (root_pattern (units_of_pattern b.bits)) }
+    ensures digits { result.digits ≡ digits_needed (of_bits binary64 b.bits) }
 {
     let n = radicand_of(b);
-    let d = root_digits(n.digits);
+    let d = root_digits(n.significand);
     RootAndDigits {
         root: f64::from_bits(rounded(n.exponent, d.root)),
         digits: d.turns,
     }
 }
 
-// The square root, as `root` gives it, and the digits needed: of a positive finite s the fewest leading binary digits of
-// the root whose square is s, 53 if there are none; of every other s 0.
+// The square root, as `root` gives it, and the digits needed: of a positive finite s the fewest leading binary digits
+// of the root whose square is s, 53 if there are none; of every other s 0.
 #[tactic(auto, using(crate::proofs::RootCases::pattern_from_tests))]
 pub fn root_and_digits(s: f64) -> RootAndDigits
     ensures root { result.root ≡ root_of s }
     ensures digits { result.digits ≡ digits_needed s }
 {
     if 0.0 < s && s < f64::INFINITY {
-        root_by_digits(s.to_bits())
+        let bits = s.to_bits();
+        root_by_digits(Positive { bits })
     } else {
         RootAndDigits {
             root: root(s),

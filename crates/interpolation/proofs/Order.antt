@@ -32,13 +32,28 @@ use Rattle.interpolation.specs.Operation.{out_of_range, is_no_line, interpolatio
 use Rattle.interpolation.specs.Inner.{no_line_by, ReadyToMeasure}
 use Rattle.interpolation.proofs.Lines.{no_line_is}
 
--- of refusals in a row, which `grind` is to find
-pub first_of_both : (cs ds : List (Check Refusal)) → first_of (cs ++ ds) ≡ option_or (first_of cs) (first_of ds)
-first_of_both cs ds = first_of_two cs ds
-
 -- 14 by what was counted
-pub no_line_of : (s : List ℕ) → is_no_line (runs_of_blob s) ≡ no_line_by (coordinate_count (runs_of_blob s)) (length (runs_of_blob s)) (other_count (runs_of_blob s))
+no_line_of : (s : List ℕ) → is_no_line (runs_of_blob s) ≡ no_line_by (coordinate_count (runs_of_blob s)) (length (runs_of_blob s)) (other_count (runs_of_blob s))
 no_line_of s = no_line_is s (operand_of s) refl
+
+-- the checks one after the other, as the code makes them
+pub checks_in_turn : (s : List ℕ) (fraction : Float) (floats numbers output : ℕ) → first_of (interpolation_checks s fraction floats numbers output)
+    ≡ cond (out_of_range fraction) (Some (no_side FractionOutOfRange))
+    (option_or (first_of (on_side First (header_checks s)))
+    (option_or (first_of (on_side First (walk_checks s (geometry_start s))))
+    (cond (no_line_by (coordinate_count (runs_of_blob s)) (length (runs_of_blob s)) (other_count (runs_of_blob s))) (Some (sided First NoLine))
+    (cond (too_small (runs_of_blob s) floats numbers) (Some (sided First WorkspaceTooSmall))
+    (cond (ltb output point_bytes) (Some (no_side OutputTooShort)) None)))))
+unfolding interpolation_checks first_of on_side
+checks_in_turn s fraction floats numbers output =
+    rw (first_of_two (on_side First (header_checks s)), first_of_two (on_side First (walk_checks s (geometry_start s))), no_line_of s) refl
+
+pub one_check_of_side : (k : Reason) (b : Bool) → first_of (on_side First (check k b ∷ [])) ≡ cond b (Some (sided First k)) None
+unfolding first_of on_side
+one_check_of_side k b = refl
+
+-- what `check` needs
+pub ruleset checked = (checks_in_turn, one_check_of_side)
 
 -- ---- no check holds: none of any part
 

@@ -4,7 +4,8 @@ use mathlib.Core.Bool.{true, false}
 use mathlib.Core.List.{List, [], ◌∷◌, ◌++◌, foldl, foldl-append}
 use Prim.Native.Nat.{ℕ}
 use lib.Ieee.{Float, binary64, add, le}
-use Rattle.std.specs.Prelude.{Option, Some}
+use Rattle.std.specs.Prelude.{Option, None, Some}
+use Rattle.ieee754.specs.MinMax.{positive_zero}
 use Rattle.coords.specs.Parts.{Run, run, segments_by, of_kind}
 use Rattle.parts.specs.declared.Class.TheVariants.{Lines}
 use Rattle.parts.specs.Classes.{is_of}
@@ -13,7 +14,7 @@ use Rattle.primitives.specs.declared.Point.{Point}
 use Rattle.interpolation.specs.Interpolation.{Segment, segment, length_of, with_length, segments_of_line, segments_of}
 use Rattle.interpolation.specs.declared.Measured.{Measured}
 use Rattle.interpolation.specs.declared.Stop.{Stop}
-use Rattle.interpolation.specs.Inner.{measuring, stop_at, stop_from}
+use Rattle.interpolation.specs.Inner.{measuring, stop_at, stop_from, stop_of}
 
 -- ---- segments by their two points
 
@@ -70,6 +71,10 @@ module _ (m : Option Measured) where
 
 -- ---- the second pass
 
+pub stop_all : (target : Float) (gs : List (Segment Point)) → stop_of target gs ≡ stop_from target positive_zero None gs
+unfolding stop_of
+stop_all target gs = refl
+
 module _ (target walked : Float) (last : Option Stop) where
   pub stop_line : (rs : List (Run Point)) (kind : ℕ) (ps : List Point) (left : List (Run Point)) → rs ≡ run kind ps ∷ left → is_of Lines kind ≡ true
       → stop_from target walked last (segments_of rs) ≡ stop_from target walked last (as_segments (segments_in ps) ++ segments_of left)
@@ -95,3 +100,8 @@ module _ (target walked : Float) (last : Option Stop) where
   pub stop_last : (gs : List (Point × Point)) (more : List (Segment Point)) → gs ≡ [] → stop_from target walked last (as_segments gs ++ more) ≡ stop_from target walked last more
   unfolding as_segments
   stop_last gs more e = rw e
+
+-- what the loops over the segments need: each turn of the outer and of the inner loop, and the end of both
+pub ruleset measures = (measured_line, measured_other, measured_end, measured_next, measured_last)
+
+pub ruleset stops = (stop_line, stop_other, stop_end, stop_here, stop_later, stop_last, stop_all)

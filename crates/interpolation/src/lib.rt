@@ -10,7 +10,8 @@ ghost use Rattle.interpolation.specs.Interpolation.{segment, segments_of, length
 ghost use Rattle.interpolation.specs.Interpolation.{parameter_of, point_on, interpolated_point};
 ghost use Rattle.refusals.specs.Checks.{first_of, refused_or};
 ghost use Rattle.blob.specs.Inner.{operand_of};
-ghost use Rattle.interpolation.specs.Operation.{out_of_range, interpolation_checks, interpolated_report, line_interpolate_point};
+ghost use Rattle.interpolation.specs.Operation.{out_of_range, interpolation_checks};
+ghost use Rattle.interpolation.specs.Operation.{interpolated_report, line_interpolate_point};
 ghost use Rattle.interpolation.specs.Inner.{no_line_by, measuring, measured_of, stop_of, ReadyToMeasure, PointRead};
 
 use blob::{Lent, Operand};
@@ -50,9 +51,11 @@ fn is_no_line(o: Operand) -> bool
 }
 
 // Every check in order; the output is its length.
-#[tactic(auto, using(crate::proofs::Order::first_of_both, crate::proofs::Order::no_line_of), unfolding(crate::specs::Operation::interpolation_checks, refusals::specs::Checks::first_of, refusals::specs::Checks::on_side))]
+#[tactic(auto, using(crate::proofs::Order::checked))]
 fn check(s: &[u8], fraction: f64, lent: Lent, output: usize) -> Result<Operand, Refusal>
-    ensures { result ≡ refused_or (first_of (interpolation_checks s.now fraction lent.floats lent.numbers output)) (operand_of s.now) }
+    ensures { result ≡ refused_or
+        (first_of (interpolation_checks s.now fraction lent.floats lent.numbers output))
+        (operand_of s.now) }
 {
     if out_of_range(fraction) {
         return Err(Reason::FractionOutOfRange.of(Side::Neither));
@@ -93,7 +96,7 @@ fn measure(before: Option<Measured>, a: Point, b: Point) -> Measured
 }
 
 // All segments of a workspace measured, in order; nothing where there is none.
-#[tactic(auto, using(crate::proofs::Turns::measured_line, crate::proofs::Turns::measured_other, crate::proofs::Turns::measured_end, crate::proofs::Turns::measured_next, crate::proofs::Turns::measured_last), unfolding(crate::specs::Inner::measured_of))]
+#[tactic(auto, using(crate::proofs::Turns::measures), unfolding(crate::specs::Inner::measured_of))]
 fn measure_all(line: &Stored<'_>) -> Option<Measured>
     ensures { result ≡ measured_of (segments_of line.now) }
 {
@@ -109,7 +112,7 @@ fn measure_all(line: &Stored<'_>) -> Option<Measured>
 }
 
 // The segment where a length is reached: at the last by position, if at none before; nothing where there is no segment.
-#[tactic(auto, using(crate::proofs::Turns::stop_line, crate::proofs::Turns::stop_other, crate::proofs::Turns::stop_end, crate::proofs::Turns::stop_here, crate::proofs::Turns::stop_later, crate::proofs::Turns::stop_last), unfolding(crate::specs::Inner::stop_of, crate::specs::Interpolation::with_length))]
+#[tactic(auto, using(crate::proofs::Turns::stops), unfolding(crate::specs::Interpolation::with_length))]
 fn search_all(target: f64, line: &Stored<'_>) -> Option<Stop>
     ensures { result ≡ stop_of target (segments_of line.now) }
 {

@@ -9,10 +9,10 @@ use Rattle.primitives.specs.declared.Point.{Point}
 use Rattle.items.specs.declared.Item.TheVariants.{Point as point}
 use Rattle.items.specs.Items.{point_items, segment_items, triangle_items, items_of_kind, items_of}
 
-no_line : (kind : ℕ) → is_point kind ≡ true → is_line kind ≡ false
+pub no_line : (kind : ℕ) → is_point kind ≡ true → is_line kind ≡ false
 no_line kind e = rw (eqb-true kind 1 e)
 
-no_face : (kind : ℕ) → is_point kind ≡ true → is_face kind ≡ false
+pub no_face : (kind : ℕ) → is_point kind ≡ true → is_face kind ≡ false
 no_face kind e = rw (eqb-true kind 1 e)
 
 -- runs of a kind that no point has come to nothing

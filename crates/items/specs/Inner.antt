@@ -1,21 +1,18 @@
--- The items of a class, as code walks a run. Serves inner contracts. Definitions only.
-use Rattle.std.specs.Prelude.{ℕ, ◌+◌, ◌-◌, Bool, List, Float}
+-- The items of a class, and what a walk over items has left. Serves inner contracts. Definitions only.
+use Rattle.std.specs.Prelude.{List, [], ◌++◌}
 use Rattle.primitives.specs.declared.Point.{Point}
-use Rattle.coords.specs.Parts.{Run, is_point, is_line, is_face}
-use Rattle.parts.specs.Stored.{stored_point}
+use Rattle.coords.specs.Parts.{Run, segments_by}
+use Rattle.parts.specs.Stored.{stored_runs}
+use Rattle.parts.specs.Slices.{points_in}
+use Rattle.parts.specs.Classes.{is_of}
 use Rattle.parts.specs.declared.Class.{Class}
 use Rattle.parts.specs.declared.Class.TheVariants.{Points, Lines, Faces}
+use Rattle.items.specs.declared.walk.ClassItems.{ClassItems}
+use Rattle.items.specs.declared.walk.Items.{Items}
 use Rattle.items.specs.declared.Item.{Item}
-use Rattle.items.specs.declared.Item.TheVariants.{Point as point, Segment as segment}
 use Rattle.items.specs.Items.{fan, point_items, segment_items, triangle_items, items_of_kind}
 
--- the kinds of the runs that hold items of a class
-abbrev pub is_of_class : Class → ℕ → Bool
-is_of_class Points kind = is_point kind
-is_of_class Lines kind = is_line kind
-is_of_class Faces kind = is_face kind
-
--- the items of a class that such a run gives
+-- the items of a class that a run of it gives
 abbrev pub items_by : Class → List Point → List Item
 items_by Points ps = point_items ps
 items_by Lines ps = segment_items ps
@@ -23,16 +20,36 @@ items_by Faces ps = triangle_items ps
 
 -- the items of a class in all runs
 abbrev pub class_items : Class → List (Run Point) → List Item
-class_items class rs = items_of_kind (is_of_class class) (items_by class) rs
+class_items class rs = items_of_kind (is_of class) (items_by class) rs
 
--- how many items of a class a run of n points gives
-abbrev pub item_count : Class → ℕ → ℕ
-item_count Points n = n
-item_count Lines n = n - 1
-item_count Faces n = n - 2
+-- ---- what a walk has left
 
--- item j of a run whose points start at place at
-abbrev pub item_at : Class → List Float → ℕ → ℕ → Item
-item_at Points floats at j = point (stored_point floats (at + j))
-item_at Lines floats at j = segment (stored_point floats (at + j)) (stored_point floats (at + j + 1))
-item_at Faces floats at j = fan (stored_point floats at) (stored_point floats (at + j + 1)) (stored_point floats (at + j + 2))
+-- of a run of the class, from its first point that is left on; a face's triangles fan from its hub
+unfoldable pub run_items_left : Class → Point → List Point → List Item
+run_items_left Points hub ps = point_items ps
+run_items_left Lines hub ps = segment_items ps
+run_items_left Faces hub ps = segments_by (fan hub) ps
+
+abbrev pub run_left : ClassItems → List Item
+run_left s = run_items_left s.class s.hub (points_in s.points.now)
+
+-- the runs after it, and their items of the class
+abbrev pub runs_left : ClassItems → List (Run Point)
+runs_left s = stored_runs s.table.now s.floats.now
+
+abbrev pub later_run_items : ClassItems → List Item
+later_run_items s = class_items s.class (runs_left s)
+
+-- of a class
+unfoldable pub class_items_left : ClassItems → List Item
+class_items_left s = run_left s ++ later_run_items s
+
+-- of the classes after a class
+unfoldable pub later_class_items : Class → List (Run Point) → List Item
+later_class_items Points rs = class_items Lines rs ++ class_items Faces rs
+later_class_items Lines rs = class_items Faces rs
+later_class_items Faces rs = []
+
+-- of all classes
+unfoldable pub items_left : Items → List Item
+items_left s = class_items_left s.left ++ later_class_items s.left.class (stored_runs s.table.now s.floats.now)

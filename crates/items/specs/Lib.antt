@@ -3,3 +3,4 @@ pub mod Candidates
 pub mod Closest
 pub mod Inner
 pub mod InnerRepeats
+pub mod Fitting

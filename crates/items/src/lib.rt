@@ -1,21 +1,24 @@
 // Items of the closest sweep, by value, and what two of them offer.
 #![tactic(auto)]
 
-ghost use Rattle.std.specs.Prelude.{◌≡◌, true, ◌+◌, ◌*◌, ◌≤◌, ◌<◌, length};
-ghost use Rattle.workspace.specs.Workspace.{floats_per_coordinate};
+mod boxed;
+mod walk;
+
+ghost use Rattle.std.specs.Prelude.{◌≡◌, true};
 ghost use Rattle.extremes.specs.Sweeps.{shorter, taking};
 ghost use Rattle.measures.specs.Measures.{point_triangle};
 ghost use Rattle.measures.specs.InnerOffers.{offered_all, flipped_if, AllSettled};
-ghost use Rattle.items.specs.declared.Item.TheVariants.{Segment as segment, Triangle as triangle};
+ghost use Rattle.items.specs.declared.Item.{Item as AnItem};
+ghost use Rattle.items.specs.declared.Item.TheVariants.{Point as point, Segment as segment, Triangle as triangle};
 ghost use Rattle.items.specs.Items.{box_of_item};
 ghost use Rattle.items.specs.Candidates.{candidates_of};
-ghost use Rattle.items.specs.Inner.{is_of_class, item_count, item_at};
-ghost use Rattle.items.specs.InnerRepeats.{first_before, second_before, HandsOn};
+ghost use Rattle.items.specs.InnerRepeats.{first_after, first_before, second_after, second_before, HandsOn};
 
+pub use boxed::Boxed;
 use extremes::{Best, Closest};
 use measures::{Follows, Triangle};
-use parts::Class;
 use primitives::{Aabb, Point, UnrootedWitness};
+pub use walk::Items;
 
 // What the closest sweep pairs off.
 #[derive(Clone, Copy)]
@@ -25,99 +28,79 @@ pub enum Item {
     Triangle(Triangle),
 }
 
-// Whether a run of the kind holds items of the class. By the kind's number, without the table of kinds: it is asked for each item.
-pub fn is_of_class(class: Class, kind: u32) -> bool
-    ensures { result ≡ is_of_class class kind }
-{
-    match class {
-        Class::Points => kind == 1,
-        Class::Lines => kind == 2,
-        Class::Faces => kind == 3 || kind == 17,
-    }
-}
-
-// How many items of the class a run of n points gives.
-pub fn item_count(class: Class, n: usize) -> usize
-    ensures { result ≡ item_count class n }
-{
-    match class {
-        Class::Points => n,
-        Class::Lines => n.saturating_sub(1),
-        Class::Faces => n.saturating_sub(2),
-    }
-}
-
-// Item j of a run of n points that start at place at.
-pub fn item_at(class: Class, floats: &[f64], at: usize, n: usize, j: usize) -> Item
-    requires { (floats_per_coordinate * (at + n) ≤ length floats.now) × (j < item_count class n) }
-    ensures { result ≡ item_at class floats.now at j }
-{
-    let next = at + j;
-    match class {
-        Class::Points => Item::Point(parts::point_at(floats, next)),
-        Class::Lines => Item::Segment(
-            parts::point_at(floats, next),
-            parts::point_at(floats, next + 1),
-        ),
-        Class::Faces => Item::Triangle(Triangle {
-            a: parts::point_at(floats, at),
-            b: parts::point_at(floats, next + 1),
-            c: parts::point_at(floats, next + 2),
-        }),
-    }
-}
-
 // The start of a segment with a triangle, unless it was measured before.
-fn segment_start(
-    best: Best<Closest>,
-    s: Point,
-    t: Triangle,
-    flip: bool,
-    again: bool,
-) -> Best<Closest>
-    requires { again ≡ true → taking shorter best (flipped_if flip (point_triangle s t)) ≡ best }
-    ensures { result ≡ taking shorter best (flipped_if flip (point_triangle s t)) }
+fn segment_start(best: &mut Best<Closest>, s: Point, t: Triangle, flip: bool, again: bool)
+    requires { again ≡ true → taking shorter best.old (flipped_if flip (point_triangle s t)) ≡ best.old }
+    ensures { best.new ≡ taking shorter best.old (flipped_if flip (point_triangle s t)) }
 {
     if again {
-        return best;
+        return;
     }
-    measures::pt_tri(best, s, t, flip)
+    measures::pt_tri(best, s, t, flip);
 }
 
 // A segment of A with a triangle of B.
 #[tactic(auto, unfolding(crate::specs::Candidates::candidates_of, crate::specs::InnerRepeats::first_before, measures::specs::InnerOffers::AllSettled))]
-fn segment_triangle(
-    best: Best<Closest>,
-    s: Point,
-    e: Point,
-    t: Triangle,
-    follows: bool,
-) -> Best<Closest>
-    requires { follows ≡ true → AllSettled best (first_before (segment s e) (triangle t)) }
-    ensures { result ≡ offered_all best (candidates_of (segment s e) (triangle t)) }
+fn segment_triangle(best: &mut Best<Closest>, s: Point, e: Point, t: Triangle, follows: bool)
+    requires { follows ≡ true → AllSettled best.old (first_before (segment s e) (triangle t)) }
+    ensures { best.new ≡ offered_all best.old (candidates_of (segment s e) (triangle t)) }
 {
-    let first = segment_start(best, s, t, false, follows);
-    let ends = measures::pt_tri(first, e, t, false);
-    measures::seg_edges(ends, s, e, t, false)
+    segment_start(best, s, t, false, follows);
+    measures::pt_tri(best, e, t, false);
+    measures::seg_edges(best, s, e, t, false);
 }
 
-// A triangle of A with a segment of B.
+// A triangle of A with a segment of B: the one above, mirrored. One function of both would turn every measure by a
+// flag.
 #[tactic(auto, unfolding(crate::specs::Candidates::candidates_of, crate::specs::InnerRepeats::second_before, measures::specs::InnerOffers::AllSettled))]
-fn triangle_segment(
-    best: Best<Closest>,
-    t: Triangle,
-    s: Point,
-    e: Point,
-    follows: bool,
-) -> Best<Closest>
-    requires { follows ≡ true → AllSettled best (second_before (triangle t) (segment s e)) }
-    ensures { result ≡ offered_all best (candidates_of (triangle t) (segment s e)) }
+fn triangle_segment(best: &mut Best<Closest>, t: Triangle, s: Point, e: Point, follows: bool)
+    requires { follows ≡ true → AllSettled best.old (second_before (triangle t) (segment s e)) }
+    ensures { best.new ≡ offered_all best.old (candidates_of (triangle t) (segment s e)) }
 {
-    let first = segment_start(best, s, t, true, follows);
-    measures::pt_tri(first, e, t, true)
-        .offer(measures::seg_seg(t.a, t.b, s, e))
-        .offer(measures::seg_seg(t.b, t.c, s, e))
-        .offer(measures::seg_seg(t.c, t.a, s, e))
+    let Triangle { a, b, c } = t;
+    segment_start(best, s, t, true, follows);
+    measures::pt_tri(best, e, t, true);
+    best.offer(measures::seg_seg(a, b, s, e));
+    best.offer(measures::seg_seg(b, c, s, e));
+    best.offer(measures::seg_seg(c, a, s, e));
+}
+
+// A point of A with an item of B.
+#[tactic(auto, unfolding(crate::specs::Candidates::candidates_of))]
+fn with_point(best: &mut Best<Closest>, p: Point, other: Item)
+    ensures { best.new ≡ offered_all best.old (candidates_of (point p) other) }
+{
+    match other {
+        Item::Point(q) => best.offer(UnrootedWitness::between(p, q)),
+        Item::Segment(u, v) => best.offer(measures::pt_seg(p, u, v)),
+        Item::Triangle(u) => measures::pt_tri(best, p, u, false),
+    }
+}
+
+// A segment of A with an item of B.
+#[tactic(auto, unfolding(crate::specs::Candidates::candidates_of))]
+fn with_segment(best: &mut Best<Closest>, s: Point, e: Point, other: Item, follows: bool)
+    requires { follows ≡ true → AllSettled best.old (first_before (segment s e) other) }
+    ensures { best.new ≡ offered_all best.old (candidates_of (segment s e) other) }
+{
+    match other {
+        Item::Point(q) => best.offer(measures::pt_seg(q, s, e).flipped()),
+        Item::Segment(u, v) => best.offer(measures::seg_seg(s, e, u, v)),
+        Item::Triangle(u) => segment_triangle(best, s, e, u, follows),
+    }
+}
+
+// A triangle of A with an item of B.
+#[tactic(auto, unfolding(crate::specs::Candidates::candidates_of, crate::specs::InnerRepeats::first_before, crate::specs::InnerRepeats::second_before))]
+fn with_triangle(best: &mut Best<Closest>, t: Triangle, other: Item, follows: Follows)
+    requires { HandsOn (triangle t) other follows best.old }
+    ensures { best.new ≡ offered_all best.old (candidates_of (triangle t) other) }
+{
+    match other {
+        Item::Point(q) => measures::pt_tri(best, q, t, true),
+        Item::Segment(u, v) => triangle_segment(best, t, u, v, follows.second),
+        Item::Triangle(u) => measures::tri_tri(best, t, u, follows),
+    }
 }
 
 impl Item {
@@ -133,36 +116,31 @@ impl Item {
         }
     }
 
-    // The candidates of an item of A with an item of B, offered in order, less those that the item before either offered, where that one was measured and this one follows it in its run.
-    #[tactic(auto, unfolding(crate::specs::Candidates::candidates_of, crate::specs::InnerRepeats::first_before, crate::specs::InnerRepeats::second_before))]
-    pub fn offer(self, best: Best<Closest>, other: Item, follows: Follows) -> Best<Closest>
-        requires { HandsOn self other follows best }
-        ensures { result ≡ offered_all best (candidates_of self other) }
+    // Whether it has what the next of a run shares with the item before it, bit for bit: a segment's end, a triangle's
+    // first and last vertex.
+    #[tactic(auto, unfolding(crate::specs::InnerRepeats::first_after, crate::specs::InnerRepeats::first_before, crate::specs::InnerRepeats::second_after, crate::specs::InnerRepeats::second_before))]
+    pub fn follows(self, before: Item) -> bool
+        ensures first { result ≡ true → (b : AnItem) → first_after before b ≡ first_before self b }
+        ensures second { result ≡ true → (a : AnItem) → second_after a before ≡ second_before a self }
     {
-        match (self, other) {
-            (Item::Point(p), Item::Point(q)) => best.offer(UnrootedWitness::between(p, q)),
-            (Item::Point(p), Item::Segment(u, v)) => best.offer(measures::pt_seg(p, u, v)),
-            (Item::Point(p), Item::Triangle(u)) => measures::pt_tri(best, p, u, false),
-            (Item::Segment(s, e), Item::Point(q)) => best.offer(measures::pt_seg(
-                q, s, e,
-            ).flipped()),
-            (Item::Segment(s, e), Item::Segment(u, v)) => best.offer(measures::seg_seg(s, e, u, v)),
-            (Item::Segment(s, e), Item::Triangle(u)) => segment_triangle(
-                best,
-                s,
-                e,
-                u,
-                follows.first,
-            ),
-            (Item::Triangle(t), Item::Point(q)) => measures::pt_tri(best, q, t, true),
-            (Item::Triangle(t), Item::Segment(u, v)) => triangle_segment(
-                best,
-                t,
-                u,
-                v,
-                follows.second,
-            ),
-            (Item::Triangle(t), Item::Triangle(u)) => measures::tri_tri(best, t, u, follows),
+        match (self, before) {
+            (Item::Segment(s, _), Item::Segment(_, e)) => s.same_bits(e),
+            (Item::Triangle(t), Item::Triangle(u)) => t.a.same_bits(u.a) && t.b.same_bits(u.c),
+            _ => false,
+        }
+    }
+
+    // The candidates of an item of A with an item of B, offered in order, less those that the item before either
+    // offered, where that one was measured and this one follows it.
+    // One match within the other: a match of both would copy the two items first.
+    pub fn offer(self, best: &mut Best<Closest>, other: Item, follows: Follows)
+        requires { HandsOn self other follows best.old }
+        ensures { best.new ≡ offered_all best.old (candidates_of self other) }
+    {
+        match self {
+            Item::Point(p) => with_point(best, p, other),
+            Item::Segment(s, e) => with_segment(best, s, e, other, follows.first),
+            Item::Triangle(t) => with_triangle(best, t, other, follows),
         }
     }
 }

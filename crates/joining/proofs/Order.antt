@@ -23,6 +23,12 @@ module _ (a b : List ℕ) (lent : ℕ) where
   unfolding first_of together_checks
   together = refl
 
+  pub srids_differ_lem : srids_differ a b ≡ true → first_of (together_checks a b lent) ≡ Some (no_side SridsDiffer)
+  srids_differ_lem h = together ∙ rw h
+
+  pub nests_too_deep_lem : srids_differ a b ≡ false → nests_too_deep a b ≡ true → first_of (together_checks a b lent) ≡ Some (no_side NestsTooDeep)
+  nests_too_deep_lem h18 h = together ∙ rw (h18, h)
+
   -- none of the three: the join nests no deeper than level 32, and the output is as long as the blob
   none_together : (p q r : Bool) → cond p (Some (no_side SridsDiffer)) (cond q (Some (no_side NestsTooDeep)) (cond r (Some (no_side OutputTooShort)) None)) ≡ None → (q ≡ false) × (r ≡ false)
   none_together true q r h = cc

@@ -32,12 +32,21 @@ fn reaches_last_level(s: &[u8], at: usize) -> bool
     coords::count_geometry(s, at, 32).is_err()
 }
 
+// Both blobs, and what was read of them: nothing refuses either.
+#[derive(Clone, Copy)]
+struct Both<'a> {
+    a: &'a [u8],
+    b: &'a [u8],
+    operands: Operands,
+    ghost read: { BothRead a.now b.now operands },
+}
+
 // Whether either has: the join would nest past level 32.
-fn nests_too_deep(a: &[u8], b: &[u8], o: Operands) -> bool
-    requires { BothRead a.now b.now o }
-    ensures { result ≡ nests_too_deep a.now b.now }
+fn nests_too_deep(both: &Both) -> bool
+    ensures { result ≡ nests_too_deep both.now.a.now both.now.b.now }
 {
-    reaches_last_level(a, o.first.at) || reaches_last_level(b, o.second.at)
+    reaches_last_level(both.a, both.operands.first.at)
+        || reaches_last_level(both.b, both.operands.second.at)
 }
 
 // Whether fewer bytes are lent than a join of n1 and n2 bytes takes; their sum is never taken, since it may not fit.
@@ -49,16 +58,15 @@ fn too_short(lent: usize, n1: usize, n2: usize) -> bool
 
 // 18, 19 and 16, in this order, once both blobs are in order by themselves.
 #[tactic(auto, using(crate::proofs::Order::together), unfolding(crate::specs::Joined::srids_differ))]
-fn check_together(a: &[u8], b: &[u8], o: Operands, lent: usize) -> Result<(), Refusal>
-    requires { BothRead a.now b.now o }
-    ensures { result ≡ refused_or (first_of (together_checks a.now b.now lent)) tt }
+fn check_together(both: &Both, lent: usize) -> Result<(), Refusal>
+    ensures { result ≡ refused_or (first_of (together_checks both.now.a.now both.now.b.now lent)) tt }
 {
-    let first = o.first;
-    let second = o.second;
+    let first = both.operands.first;
+    let second = both.operands.second;
     if first.srid != second.srid {
         return Err(Reason::SridsDiffer.of(Side::Neither));
     }
-    if nests_too_deep(a, b, o) {
+    if nests_too_deep(both) {
         return Err(Reason::NestsTooDeep.of(Side::Neither));
     }
     if too_short(lent, first.end - first.at, second.end - second.at) {
@@ -78,20 +86,19 @@ fn put_part(output: &mut [u8], at: usize, s: &[u8], start: usize, end: usize)
 }
 
 // The joined blob in the first bytes, the rest unchanged; its size.
-fn put_join(a: &[u8], b: &[u8], o: Operands, output: &mut [u8]) -> usize
-    requires both_read { BothRead a.now b.now o }
-    requires b_in_bounds { length (joined_blob a.now b.now) ≤ length output.old }
-    ensures value { result ≡ length (joined_blob a.now b.now) }
-    ensures output_after { output.new ≡ joined_blob a.now b.now
-        ++ drop (length (joined_blob a.now b.now)) output.old }
+fn put_join(both: &Both, output: &mut [u8]) -> usize
+    requires { length (joined_blob both.now.a.now both.now.b.now) ≤ length output.old }
+    ensures value { result ≡ length (joined_blob both.now.a.now both.now.b.now) }
+    ensures output_after { output.new ≡ joined_blob both.now.a.now both.now.b.now
+        ++ drop (length (joined_blob both.now.a.now both.now.b.now)) output.old }
 {
-    let first = o.first;
-    let second = o.second;
+    let first = both.operands.first;
+    let second = both.operands.second;
     let middle = JOIN_HEADER_BYTES + (first.end - first.at);
-    gpb::put_header(output, o.srid, 1007);
+    gpb::put_header(output, both.operands.srid, 1007); // the type of a collection with z
     put_u32(output, 13, 2);
-    put_part(output, JOIN_HEADER_BYTES, a, first.at, first.end);
-    put_part(output, middle, b, second.at, second.end);
+    put_part(output, JOIN_HEADER_BYTES, both.a, first.at, first.end);
+    put_part(output, middle, both.b, second.at, second.end);
     middle + (second.end - second.at)
 }
 
@@ -103,7 +110,8 @@ pub fn join(a: &[u8], b: &[u8], output: &mut [u8]) -> Result<usize, Refusal>
     ensures reads_as_both { JoinReads Ok a.now b.now result output.new }
     ensures max_distance_of_both { JoinMaxDistance Ok a.now b.now result output.new }
 {
-    let o = operands::read_both(a, b)?;
-    check_together(a, b, o, output.len())?;
-    Ok(put_join(a, b, o, output))
+    let operands = operands::read_both(a, b)?;
+    let both = Both { a, b, operands };
+    check_together(&both, output.len())?;
+    Ok(put_join(&both, output))
 }

@@ -1,4 +1,3 @@
 -- The laws of listed items.
-pub mod Places
-pub mod Classes
 pub mod Growing
+pub mod Listed

@@ -1,5 +1,6 @@
-// The pair measures: point, segment and triangle against each other. A sum of squares that can't beat the best so far needs no root,
-// so `pt_seg` and `seg_seg` give their witness with the root not taken, and `pt_tri` and `tri_tri` offer theirs to the best, one by one.
+// The pair measures: point, segment and triangle against each other. A sum of squares that can't beat the best so far
+// needs no root, so `pt_seg` and `seg_seg` give their witness with the root not taken, and `pt_tri` and `tri_tri` offer
+// theirs to the best, one by one.
 #![tactic(auto)]
 
 ghost use Rattle.std.specs.Prelude.{◌≡◌, true, [], ◌∷◌};
@@ -7,8 +8,12 @@ ghost use Rattle.primitives.specs.declared.Witness.{Witness};
 ghost use Rattle.primitives.specs.Vectors.{dot_of};
 ghost use Rattle.primitives.specs.Unrooted.{StandsFor};
 ghost use Rattle.extremes.specs.Sweeps.{shorter, taking};
-ghost use Rattle.measures.specs.Measures.{foot_parameter, point_segment, first_parameter, parameters_of, segment_segment, normal_of, foot_of, inner_side, inside_triangle, inner_foot, point_edges, point_triangle, triangle_triangle};
-ghost use Rattle.measures.specs.InnerOffers.{offered_all, AllSettled, flipped_if, edge_witnesses, first_two, vertex_witnesses, Spared};
+ghost use Rattle.measures.specs.Measures.{foot_parameter, point_segment, first_parameter, parameters_of};
+ghost use Rattle.measures.specs.Measures.{segment_segment, normal_of, foot_of, inner_side};
+ghost use Rattle.measures.specs.Measures.{inside_triangle, inner_foot, point_edges, point_triangle};
+ghost use Rattle.measures.specs.Measures.{triangle_triangle};
+ghost use Rattle.measures.specs.InnerOffers.{offered_all, AllSettled, flipped_if, edge_witnesses};
+ghost use Rattle.measures.specs.InnerOffers.{first_two, vertex_witnesses, Spared};
 
 use extremes::{Best, Closest};
 use primitives::{Point, UnrootedWitness};
@@ -138,28 +143,30 @@ impl Triangle {
     pub fn normal(self) -> Point
         ensures { result ≡ normal_of self }
     {
-        (self.b - self.a).cross(self.c - self.a)
+        let Triangle { a, b, c } = self;
+        (b - a).cross(c - a)
     }
 
-    // Whether the point x of its plane lies inside, the normal being n. Since `crossings` calls it too, it is a call in rule 1's sweep without
-    // the hint.
+    // Whether the point x of its plane lies inside, the normal being n. Since `crossings` calls it too, it is a call in
+    // rule 1's sweep without the hint.
     #[inline(always)]
     #[tactic(auto, unfolding(crate::specs::Measures::inside_triangle))]
     pub fn contains(self, x: Point, n: Point) -> bool
         ensures { result ≡ inside_triangle self x n }
     {
-        inner_side(self.a, self.b, x, n)
-            && inner_side(self.b, self.c, x, n)
-            && inner_side(self.c, self.a, x, n)
+        let Triangle { a, b, c } = self;
+        inner_side(a, b, x, n) && inner_side(b, c, x, n) && inner_side(c, a, x, n)
     }
 
-    // The foot of the perpendicular from p to its plane, where it lies inside; none where the normal's squared length is not above 0.
+    // The foot of the perpendicular from p to its plane, where it lies inside; none where the normal's squared length
+    // is not above 0.
     #[tactic(auto, using(crate::proofs::Literals::zero), unfolding(crate::specs::Measures::inner_foot, crate::specs::Measures::foot_inside))]
     pub fn inner_foot(self, p: Point) -> Option<Point>
         ensures { result ≡ inner_foot p self }
     {
+        let Triangle { a, .. } = self;
         let n = self.normal();
-        let x = foot(p, self.a, n);
+        let x = foot(p, a, n);
         if n.dot(n) > 0.0 && self.contains(x, n) {
             Some(x)
         } else {
@@ -171,7 +178,8 @@ impl Triangle {
     fn ends_at_start(self) -> bool
         ensures { result ≡ true → self.a ≡ self.c }
     {
-        same(self.a, self.c)
+        let Triangle { a, c, .. } = self;
+        a.same_bits(c)
     }
 }
 
@@ -184,27 +192,27 @@ fn turned(s: UnrootedWitness, flip: bool) -> UnrootedWitness
 
 // A point and the nearest of a triangle's edges, edge by edge; the first is kept where its distance is NaN.
 #[tactic(auto, using(crate::proofs::BestWitness::stands_distance, crate::proofs::NearestEdge::edges_leave, crate::proofs::NearestEdge::edges_offered, crate::proofs::NearestEdge::first_kept, crate::proofs::Literals::zero))]
-fn pt_edges(best: Best<Closest>, p: Point, t: Triangle, flip: bool) -> Best<Closest>
-    ensures { result ≡ taking shorter best (flipped_if flip (point_edges p t)) }
+fn pt_edges(best: &mut Best<Closest>, p: Point, t: Triangle, flip: bool)
+    ensures { best.new ≡ taking shorter best.old (flipped_if flip (point_edges p t)) }
 {
     let Triangle { a, b, c } = t;
     let x = pt_seg(p, a, b);
     let y = pt_seg(p, b, c);
     let z = pt_seg(p, c, a);
     if best.excludes(x.sum) && best.excludes(y.sum) && best.excludes(z.sum) {
-        return best;
+        return;
     }
-    let first = best.offer(turned(x, flip));
+    best.offer(turned(x, flip));
     if x.sum >= 0.0 {
-        return first.offer(turned(y, flip)).offer(turned(z, flip));
+        best.offer(turned(y, flip));
+        best.offer(turned(z, flip));
     }
-    first
 }
 
 // A point and a filled triangle: the foot where it lies inside, else the nearest edge.
 #[tactic(auto, using(crate::proofs::NearestEdge::foot_measured, crate::proofs::NearestEdge::edges_measured))]
-pub fn pt_tri(best: Best<Closest>, p: Point, t: Triangle, flip: bool) -> Best<Closest>
-    ensures { result ≡ taking shorter best (flipped_if flip (point_triangle p t)) }
+pub fn pt_tri(best: &mut Best<Closest>, p: Point, t: Triangle, flip: bool)
+    ensures { best.new ≡ taking shorter best.old (flipped_if flip (point_triangle p t)) }
 {
     match t.inner_foot(p) {
         Some(foot) => best.offer(turned(UnrootedWitness::between(p, foot), flip)),
@@ -212,89 +220,66 @@ pub fn pt_tri(best: Best<Closest>, p: Point, t: Triangle, flip: bool) -> Best<Cl
     }
 }
 
-// The segment p q against the edges of a triangle; a best of distance 0 stays. Where the edge b c was measured before, it is spared.
+// The segment p q against the edges of a triangle; a best of distance 0 stays. Where the edge b c was measured before,
+// it is spared.
 #[tactic(auto, using(crate::proofs::TwoTriangles::zero_edges, crate::proofs::BestWitness::stands_distance, crate::proofs::Settled::stays, crate::proofs::NotBelowZero::segment_segment_lem))]
-pub fn seg_edges(
-    best: Best<Closest>,
-    p: Point,
-    q: Point,
-    t: Triangle,
-    closes: bool,
-) -> Best<Closest>
-    requires { closes ≡ true → taking shorter best (segment_segment p q t.b t.c) ≡ best }
-    ensures { result ≡ offered_all best (edge_witnesses p q t) }
+pub fn seg_edges(best: &mut Best<Closest>, p: Point, q: Point, t: Triangle, closes: bool)
+    requires { closes ≡ true → taking shorter best.old (segment_segment p q t.b t.c) ≡ best.old }
+    ensures { best.new ≡ offered_all best.old (edge_witnesses p q t) }
 {
     let Triangle { a, b, c } = t;
     if best.is_zero() {
-        return best;
+        return;
     }
     let x = seg_seg(p, q, a, b);
     let z = seg_seg(p, q, c, a);
     if closes {
         if best.excludes(x.sum) && best.excludes(z.sum) {
-            return best;
+            return;
         }
-        return best.offer(x).offer(z);
+        best.offer(x);
+        best.offer(z);
+        return;
     }
     let y = seg_seg(p, q, b, c);
     if best.excludes(x.sum) && best.excludes(y.sum) && best.excludes(z.sum) {
-        return best;
+        return;
     }
-    best.offer(x).offer(y).offer(z)
-}
-
-// Whether two floats have the same bits.
-fn same_bits(x: f64, y: f64) -> bool
-    ensures { result ≡ true → x ≡ y }
-{
-    ieee754::to_pattern(x) == ieee754::to_pattern(y)
-}
-
-// Whether two points have the same bits.
-fn same(a: Point, b: Point) -> bool
-    ensures { result ≡ true → a ≡ b }
-{
-    same_bits(a.x, b.x) && same_bits(a.y, b.y) && same_bits(a.z, b.z)
+    best.offer(x);
+    best.offer(y);
+    best.offer(z);
 }
 
 // The first two vertices of a triangle against another, unless they were measured before.
 #[tactic(auto, unfolding(crate::specs::InnerOffers::AllSettled))]
-fn first_two(
-    best: Best<Closest>,
-    t: Triangle,
-    other: Triangle,
-    flip: bool,
-    again: bool,
-) -> Best<Closest>
-    requires { again ≡ true → AllSettled best (first_two flip t other) }
-    ensures { result ≡ offered_all best (first_two flip t other) }
+fn first_two(best: &mut Best<Closest>, t: Triangle, other: Triangle, flip: bool, again: bool)
+    requires { again ≡ true → AllSettled best.old (first_two flip t other) }
+    ensures { best.new ≡ offered_all best.old (first_two flip t other) }
 {
+    let Triangle { a, b, .. } = t;
     if again {
-        return best;
+        return;
     }
-    pt_tri(pt_tri(best, t.a, other, flip), t.b, other, flip)
+    pt_tri(best, a, other, flip);
+    pt_tri(best, b, other, flip);
 }
 
-// Each vertex of a triangle against another; a best of distance 0 stays. Where a and b were measured before, they are spared, and so is c where it is a.
+// Each vertex of a triangle against another; a best of distance 0 stays. Where a and b were measured before, they are
+// spared, and so is c where it is a.
 #[tactic(auto, using(crate::proofs::TwoTriangles::zero_vertices, crate::proofs::Settled::again_later, crate::proofs::TwoTriangles::vertices_distant))]
-fn vertices(
-    best: Best<Closest>,
-    t: Triangle,
-    other: Triangle,
-    flip: bool,
-    again: bool,
-) -> Best<Closest>
-    requires { again ≡ true → AllSettled best (first_two flip t other) }
-    ensures { result ≡ offered_all best (vertex_witnesses flip t other) }
+fn vertices(best: &mut Best<Closest>, t: Triangle, other: Triangle, flip: bool, again: bool)
+    requires { again ≡ true → AllSettled best.old (first_two flip t other) }
+    ensures { best.new ≡ offered_all best.old (vertex_witnesses flip t other) }
 {
+    let Triangle { c, .. } = t;
     if best.is_zero() {
-        return best;
+        return;
     }
-    let both = first_two(best, t, other, flip, again);
+    first_two(best, t, other, flip, again);
     if t.ends_at_start() {
-        return both;
+        return;
     }
-    pt_tri(both, t.c, other, flip)
+    pt_tri(best, c, other, flip);
 }
 
 // Whether a triangle follows a measured one in its fan and ends a closed ring: its last vertex is its first.
@@ -319,39 +304,36 @@ impl Follows {
 }
 
 // The edge b c of t against the edges of u, unless t follows a measured triangle and ends a closed ring.
-fn middle_edge(
-    best: Best<Closest>,
-    t: Triangle,
-    u: Triangle,
-    t_closes: bool,
-    u_closes: bool,
-) -> Best<Closest>
-    requires t_closes { t_closes ≡ true → offered_all best (edge_witnesses t.b t.c u) ≡ best }
-    requires u_closes { u_closes ≡ true → taking shorter best (segment_segment t.b t.c u.b u.c) ≡ best }
-    ensures { result ≡ offered_all best (edge_witnesses t.b t.c u) }
+fn middle_edge(best: &mut Best<Closest>, t: Triangle, u: Triangle, t_closes: bool, u_closes: bool)
+    requires t_closes { t_closes ≡ true → offered_all best.old (edge_witnesses t.b t.c u) ≡ best.old }
+    requires u_closes { u_closes ≡ true → taking shorter best.old (segment_segment t.b t.c u.b u.c) ≡ best.old }
+    ensures { best.new ≡ offered_all best.old (edge_witnesses t.b t.c u) }
 {
+    let Triangle { b, c, .. } = t;
     if t_closes {
-        return best;
+        return;
     }
-    seg_edges(best, t.b, t.c, u, u_closes)
+    seg_edges(best, b, c, u, u_closes);
 }
 
-// Two filled triangles: +infinity, each pair of edges, then the vertices of each against the other. What each shares with the one before it in its fan is spared where it follows that one.
-pub fn tri_tri(best: Best<Closest>, t: Triangle, u: Triangle, follows: Follows) -> Best<Closest>
-    requires { Spared t u follows best }
-    ensures { result ≡ taking shorter best (triangle_triangle t u) }
+// Two filled triangles: +infinity, each pair of edges, then the vertices of each against the other. What each shares
+// with the one before it in its fan is spared where it follows that one.
+pub fn tri_tri(best: &mut Best<Closest>, t: Triangle, u: Triangle, follows: Follows)
+    requires { Spared t u follows best.old }
+    ensures { best.new ≡ taking shorter best.old (triangle_triangle t u) }
 {
+    let Triangle { a, b, c } = t;
     let infinity = UnrootedWitness {
         sum: f64::INFINITY,
-        a: t.a,
+        a,
         b: u.a,
     };
     let t_closes = closes_ring(t, follows.first);
     let u_closes = closes_ring(u, follows.second);
-    let start = best.offer(infinity);
-    let first = seg_edges(start, t.a, t.b, u, u_closes);
-    let second = middle_edge(first, t, u, t_closes, u_closes);
-    let third = seg_edges(second, t.c, t.a, u, u_closes);
-    let fourth = vertices(third, t, u, false, follows.first);
-    vertices(fourth, u, t, true, follows.second)
+    best.offer(infinity);
+    seg_edges(best, a, b, u, u_closes);
+    middle_edge(best, t, u, t_closes, u_closes);
+    seg_edges(best, c, a, u, u_closes);
+    vertices(best, t, u, false, follows.first);
+    vertices(best, u, t, true, follows.second);
 }

@@ -58,7 +58,8 @@ pub fn fill(
 )
     requires o_value { o ≡ operands_of a.now b.now }
     requires ready { Ready a.now b.now (lengths floats1.old table1.old) (lengths floats2.old table2.old) }
-    ensures { workspaces floats1.new table1.new floats2.new table2.new ≡ filled a.now b.now (workspaces floats1.old table1.old floats2.old table2.old) }
+    ensures { workspaces floats1.new table1.new floats2.new table2.new
+        ≡ filled a.now b.now (workspaces floats1.old table1.old floats2.old table2.old) }
 {
     workspace::fill(a, o.first.at, floats1, table1);
     workspace::fill(b, o.second.at, floats2, table2);

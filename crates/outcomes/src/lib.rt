@@ -63,6 +63,7 @@ impl From<Result<Option<Swept>, Refusal>> for Answer {
     }
 }
 
+// Each operation takes the three cases apart itself: the form that the scope names.
 impl Answer {
     // Whether the distance is at most d; no where there is none.
     pub fn within(self, d: f64) -> Decision
@@ -87,7 +88,8 @@ impl Answer {
     }
 }
 
-// The line of the pair, from side 1's point to side 2's.
+// The line of the pair, from side 1's point to side 2's. `write_point` mirrors it: one function of both would take what
+// is written as a closure, with a clause of its own, for a match of two arms.
 pub fn write_line(pair: Option<Swept>, output: &mut [u8]) -> Written
     requires { HasRoom line_bytes (length output.old) pair }
     ensures told { written_value result ≡ blob_value (pair_of pair) }

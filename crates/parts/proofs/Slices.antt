@@ -1,14 +1,14 @@
--- What a walk by slices takes off the floats and off the table is what the places say. Assumes nothing.
-use mathlib.Core.Path.{◌≡◌, refl, ◌∙◌}
+-- What a walk by slices takes off the floats and off the table. Assumes nothing.
+use mathlib.Core.Path.{◌≡◌, refl}
 use mathlib.Core.List.{List, [], ◌∷◌}
-use Prim.Native.Nat.{ℕ, zero, suc, ◌+◌, ◌-◌, ◌*◌, ◌/◌, ◌<◌, ◌≤◌}
+use Prim.Native.Nat.{ℕ, ◌-◌, ◌*◌, ◌/◌, ◌<◌, ◌≤◌}
 use native.Mathlib.Omega.{arith}
 use lib.ListN.{length, take, drop, get_or, length-drop}
-use lib.Seq.{get_or-drop, take_all}
+use lib.Seq.{take_all}
 use lib.Ieee.{Float, nan}
 use Rattle.workspace.specs.Workspace.{floats_per_coordinate, numbers_per_run}
 use Rattle.coords.specs.Parts.{run, segments_by}
-use Rattle.parts.specs.Stored.{stored_point, points_from, runs_from, stored_runs, point_count, Laid}
+use Rattle.parts.specs.Stored.{stored_runs, point_count, Laid}
 use Rattle.parts.specs.Slices.{points_in, segments_in}
 use Rattle.primitives.specs.declared.Point.{Point}
 use Rattle.std.specs.Prelude.{slice_get, Some, None}
@@ -64,64 +64,24 @@ unfolding segments_by
 segments_more a b [] e = cc
 segments_more a b (c ∷ ps) e = let f : c ≡ b = cc in rw f
 
+pub ruleset segment_turns = (segments_none, segments_last, segments_more)
+
 -- ---- runs
-
--- a place later is a place in what is left
-point_later : (floats : List Float) (at k : ℕ) → stored_point floats (at + k) ≡ stored_point (drop (floats_per_coordinate * k) floats) at
-unfolding stored_point
-point_later floats at k =
-    let e : floats_per_coordinate * k + floats_per_coordinate * at ≡ floats_per_coordinate * (at + k) = omega arith in
-    let e₁ : floats_per_coordinate * k + (floats_per_coordinate * at + 1) ≡ floats_per_coordinate * (at + k) + 1 = omega arith in
-    let e₂ : floats_per_coordinate * k + (floats_per_coordinate * at + 2) ≡ floats_per_coordinate * (at + k) + 2 = omega arith in
-    rw (get_or-drop, get_or-drop, get_or-drop, e, e₁, e₂)
-
-points_later : (floats : List Float) (at k n : ℕ) → points_from floats (at + k) n ≡ points_from (drop (floats_per_coordinate * k) floats) at n
-unfolding points_from
-points_later floats at k zero = refl
-points_later floats at k (suc n) =
-    let e : at + 1 + k ≡ at + k + 1 = omega arith in
-    rw (point_later floats at k, ← e, points_later floats (at + 1) k n)
-
-runs_later : (floats : List Float) (at k : ℕ) (table : List ℕ) → runs_from floats (at + k) table ≡ runs_from (drop (floats_per_coordinate * k) floats) at table
-unfolding runs_from
-runs_later floats at k [] = refl
-runs_later floats at k (kind ∷ []) = refl
-runs_later floats at k (kind ∷ count ∷ table) =
-    let e : at + count + k ≡ at + k + count = omega arith in
-    rw (points_later floats at k count, ← e, runs_later floats (at + count) k table)
-
--- n points in a row are those of the first 4 n floats
-points_front : (n : ℕ) (floats : List Float) → floats_per_coordinate * n ≤ length floats → points_from floats 0 n ≡ points_in (take (floats_per_coordinate * n) floats)
-unfolding points_from points_in
-points_front zero floats h = refl
-points_front (suc n) [] h = absurd (omega arith)
-points_front (suc n) (x ∷ []) h = absurd (omega arith)
-points_front (suc n) (x ∷ y ∷ []) h = absurd (omega arith)
-points_front (suc n) (x ∷ y ∷ z ∷ []) h = absurd (omega arith)
-points_front (suc n) (x ∷ y ∷ z ∷ m ∷ floats) h =
-    let e : floats_per_coordinate * suc n ≡ suc (suc (suc (suc (floats_per_coordinate * n)))) = omega arith in
-    let next : points_from (x ∷ y ∷ z ∷ m ∷ floats) (0 + 1) n ≡ points_in (take (floats_per_coordinate * n) floats) = points_later (x ∷ y ∷ z ∷ m ∷ floats) 0 1 n ∙ points_front n floats (omega (arith, h)) in
-    rw (e, next) (unfold stored_point in refl)
 
 -- a table of fewer than two numbers has no run
 pub runs_short : (table : List ℕ) (floats : List Float) → length table < numbers_per_run → stored_runs table floats ≡ []
-unfolding stored_runs runs_from
+unfolding stored_runs
 runs_short [] floats h = refl
 runs_short (kind ∷ []) floats h = refl
 runs_short (kind ∷ count ∷ table) floats h = absurd (omega arith)
 
 -- the first run has the first of the floats, and the others have the rest
-pub stored_next : (kind count : ℕ) (table : List ℕ) (floats : List Float) → Laid (kind ∷ count ∷ table) floats
-    → stored_runs (kind ∷ count ∷ table) floats ≡ run kind (points_in (take (floats_per_coordinate * count) floats)) ∷ stored_runs table (drop (floats_per_coordinate * count) floats)
-unfolding stored_runs runs_from Laid point_count
-stored_next kind count table floats h = rw (points_front count floats (omega (arith, h)), runs_later floats 0 count table)
-
--- the same of what a slice pattern takes off a table
-pub runs_more : (table : List ℕ) (floats : List Float) → Laid table floats → numbers_per_run ≤ length table
+pub runs_more : (table : List ℕ) (floats : List Float) → numbers_per_run ≤ length table
     → stored_runs table floats ≡ run (get_or table 0 0) (points_in (take (floats_per_coordinate * get_or table 1 0) floats)) ∷ stored_runs (take (length table - numbers_per_run) (drop numbers_per_run table)) (drop (floats_per_coordinate * get_or table 1 0) floats)
-runs_more [] floats l h = absurd (omega arith)
-runs_more (kind ∷ []) floats l h = absurd (omega arith)
-runs_more (kind ∷ count ∷ table) floats l h = rw (take_all (length (kind ∷ count ∷ table) - numbers_per_run) table (omega arith)) (stored_next kind count table floats l)
+unfolding stored_runs
+runs_more [] floats h = absurd (omega arith)
+runs_more (kind ∷ []) floats h = absurd (omega arith)
+runs_more (kind ∷ count ∷ table) floats h = rw (take_all (length (kind ∷ count ∷ table) - numbers_per_run) table (omega arith))
 
 -- the first run's floats are there
 pub run_fits : (table : List ℕ) (floats : List Float) → Laid table floats → numbers_per_run ≤ length table → floats_per_coordinate * get_or table 1 0 ≤ length floats
@@ -136,3 +96,5 @@ unfolding Laid point_count
 laid_more [] floats l h = absurd (omega arith)
 laid_more (kind ∷ []) floats l h = absurd (omega arith)
 laid_more (kind ∷ count ∷ table) floats l h = rw (take_all (length (kind ∷ count ∷ table) - numbers_per_run) table (omega arith)) (omega (arith, l, length-drop (floats_per_coordinate * count) floats))
+
+pub ruleset run_turns = (runs_short, runs_more, run_fits, laid_more)

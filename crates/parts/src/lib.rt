@@ -4,15 +4,13 @@
 ghost use Rattle.std.specs.Prelude.{◌≡◌, ◌+◌, ◌*◌, ◌≤◌, ◌<◌, length, slice_get};
 ghost use Rattle.std.specs.Iterator.{YieldsFirst, YieldsFirstBy, item_count};
 ghost use Rattle.coords.specs.Parts.{run};
-ghost use Rattle.workspace.specs.Workspace.{floats_per_coordinate};
-ghost use Rattle.parts.specs.Stored.{stored_point, stored_runs, run_count, kind_at, count_at, Laid};
-ghost use Rattle.parts.specs.Slices.{segments_in};
-ghost use Rattle.parts.specs.Classes.{class_by, class_of, is_of};
+ghost use Rattle.parts.specs.Stored.{stored_runs, Laid};
+ghost use Rattle.parts.specs.Slices.{points_in, segments_in};
+ghost use Rattle.parts.specs.Classes.{is_of};
 
-use fields::Kind;
 use primitives::Point;
 use std::marker::Model;
-use workspace::{FLOATS_PER_COORDINATE, NUMBERS_PER_RUN};
+use workspace::FLOATS_PER_COORDINATE;
 
 // The classes of runs, in the order in which the sweeps go through them.
 #[derive(Clone, Copy, PartialEq, Eq, Debug)]
@@ -23,27 +21,18 @@ pub enum Class {
 }
 
 impl Class {
-    // The class of a kind of geometry: each ring of a polygon or triangle is a face, and a collection's runs have their members' kinds.
-    fn of(kind: Kind) -> Option<Class>
-        ensures { result ≡ class_by kind }
+    // Whether a run of that kind is of the class: each ring of a polygon or triangle is a face, and a collection's runs
+    // have their members' kinds. By the kind's number, without the table of kinds: it is asked for each run.
+    #[inline(always)]
+    #[tactic(auto, unfolding(crate::specs::Classes::is_of))]
+    pub fn holds(self, kind: u32) -> bool
+        ensures { result ≡ is_of self kind }
     {
-        match kind {
-            Kind::Point => Some(Class::Points),
-            Kind::LineString => Some(Class::Lines),
-            Kind::Polygon | Kind::Triangle => Some(Class::Faces),
-            _ => None,
+        match self {
+            Class::Points => kind == 1,
+            Class::Lines => kind == 2,
+            Class::Faces => kind == 3 || kind == 17,
         }
-    }
-}
-
-// The class of a run, by the number of its kind.
-#[tactic(auto, using(crate::proofs::Classes::class_known, crate::proofs::Classes::class_unknown))]
-pub fn class_of(kind: u32) -> Option<Class>
-    ensures { result ≡ class_of kind }
-{
-    match Kind::try_from(kind) {
-        Ok(kind) => Class::of(kind),
-        Err(_) => None,
     }
 }
 
@@ -64,6 +53,20 @@ impl<'a> Model for Points<'a> {
 }
 
 impl<'a> Points<'a> {
+    // Those of floats.
+    pub fn of(floats: &'a [f64]) -> Points<'a>
+        ensures { result ≡ points_in floats.now }
+    {
+        Points { floats }
+    }
+
+    // The floats of those that are left.
+    pub fn floats(&self) -> &'a [f64]
+        ensures { points_in result.now ≡ self.now }
+    {
+        self.floats // those that are left
+    }
+
     // The next one, if any is left.
     #[tactic(auto, using(crate::proofs::Slices::first_short, crate::proofs::Slices::first_more))]
     pub fn first(&self) -> Option<Point>
@@ -141,7 +144,7 @@ impl<'a> Iterator for Segments<'a> {
 
     ghost remaining = { item_count (λ s. s) };
 
-    #[tactic(auto, using(crate::proofs::Slices::segments_none, crate::proofs::Slices::segments_last, crate::proofs::Slices::segments_more))]
+    #[tactic(auto, using(crate::proofs::Slices::segment_turns))]
     fn next(&mut self) -> Option<(Point, Point)> {
         let start = self.points.next()?;
         let end = self.points.first()?;
@@ -161,7 +164,7 @@ impl<'a> Run<'a> {
     pub fn is_of(&self, class: Class) -> bool
         ensures { result ≡ is_of class self.now.kind }
     {
-        class_of(self.kind) == Some(class)
+        class.holds(self.kind)
     }
 }
 
@@ -186,7 +189,7 @@ impl<'a> Model for Runs<'a> {
 }
 
 impl<'a> Runs<'a> {
-    // The same runs, to be walked again.
+    // The same runs, to be walked again. No `Clone`: std's may fail, for want of memory, and this can't.
     pub fn again(&self) -> Runs<'a>
         ensures { result ≡ self.now }
     {
@@ -194,6 +197,14 @@ impl<'a> Runs<'a> {
             table: self.table,
             floats: self.floats,
         }
+    }
+
+    // The table and the floats of the runs that are left.
+    pub fn slices(&self) -> (&'a [u32], &'a [f64])
+        ensures value { stored_runs result.0.now result.1.now ≡ self.now }
+        ensures laid { Laid result.0.now result.1.now }
+    {
+        (self.table, self.floats)
     }
 }
 
@@ -204,7 +215,7 @@ impl<'a> Iterator for Runs<'a> {
 
     ghost remaining = { item_count (λ s. s) };
 
-    #[tactic(auto, using(crate::proofs::Slices::runs_short, crate::proofs::Slices::runs_more, crate::proofs::Slices::run_fits, crate::proofs::Slices::laid_more))]
+    #[tactic(auto, using(crate::proofs::Slices::run_turns))]
     fn next(&mut self) -> Option<Run<'a>> {
         match self.table {
             [kind, count, table @ ..] => {
@@ -214,7 +225,7 @@ impl<'a> Iterator for Runs<'a> {
                 self.floats = others;
                 Some(Run {
                     kind: *kind,
-                    points: Points { floats },
+                    points: Points::of(floats),
                 })
             }
             _ => None,
@@ -253,41 +264,5 @@ impl<'a> Stored<'a> {
         ensures { result ≡ self.now }
     {
         self.runs.again()
-    }
-}
-
-// How many runs a table has.
-pub fn run_count(table: &[u32]) -> usize
-    ensures { result ≡ run_count table.now }
-{
-    table.len() / NUMBERS_PER_RUN
-}
-
-pub fn kind_at(table: &[u32], r: usize) -> u32
-    requires { r < run_count table.now }
-    ensures { result ≡ kind_at table.now r }
-{
-    table[NUMBERS_PER_RUN * r]
-}
-
-pub fn count_at(table: &[u32], r: usize) -> usize
-    requires { r < run_count table.now }
-    ensures { result ≡ count_at table.now r }
-{
-    let n = table[NUMBERS_PER_RUN * r + 1];
-    n as usize
-}
-
-// The point at place i.
-#[tactic(auto, unfolding(crate::specs::Stored::stored_point))]
-pub fn point_at(floats: &[f64], i: usize) -> Point
-    requires { floats_per_coordinate * (i + 1) ≤ length floats.now }
-    ensures { result ≡ stored_point floats.now i }
-{
-    let at = FLOATS_PER_COORDINATE * i;
-    Point {
-        x: floats[at],
-        y: floats[at + 1],
-        z: floats[at + 2],
     }
 }

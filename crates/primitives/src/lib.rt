@@ -1,14 +1,23 @@
 // Points, witnesses and boxes, by value.
 #![tactic(auto)]
 
-ghost use Rattle.std.specs.Prelude.{◌≡◌};
+ghost use Rattle.std.specs.Prelude.{◌≡◌, true};
 ghost use Rattle.primitives.specs.declared.Witness.{Witness};
-ghost use Rattle.primitives.specs.Vectors.{difference_of, dot_of, cross_of, interpolated_of, norm_of, squared_distance, least_of, greatest_of};
+ghost use Rattle.primitives.specs.Vectors.{difference_of, dot_of, cross_of, interpolated_of};
+ghost use Rattle.primitives.specs.Vectors.{norm_of, squared_distance, least_of, greatest_of};
 ghost use Rattle.primitives.specs.Witnesses.{between_of, smaller_of, flipped_of};
 ghost use Rattle.primitives.specs.Unrooted.{rooted_of, StandsFor};
-ghost use Rattle.primitives.specs.Boxes.{box_of_point, add_point, union_of, squared, least_gap, greatest_gap, least_squared_gap, greatest_squared_gap};
+ghost use Rattle.primitives.specs.Boxes.{box_of_point, add_point, union_of, squared};
+ghost use Rattle.primitives.specs.Boxes.{least_gap, greatest_gap, least_squared_gap, greatest_squared_gap};
 
 use std::ops::Sub;
+
+// Whether two floats have the same bits.
+fn same_bits(x: f64, y: f64) -> bool
+    ensures { result ≡ true → x ≡ y }
+{
+    ieee754::to_pattern(x) == ieee754::to_pattern(y)
+}
 
 // A point, or a vector.
 #[derive(Clone, Copy)]
@@ -79,6 +88,14 @@ impl Point {
     {
         let v = self - other;
         v.dot(v)
+    }
+
+    // Whether the two have the same bits, all NaN taken as one. This is not `==`: NaN is no equal of itself, and 0.0
+    // equals -0.0.
+    pub fn same_bits(self, other: Point) -> bool
+        ensures { result ≡ true → self ≡ other }
+    {
+        same_bits(self.x, other.x) && same_bits(self.y, other.y) && same_bits(self.z, other.z)
     }
 
     // The lesser ordinate on each axis.

@@ -1,9 +1,9 @@
 -- Both blobs read: the order of the checks, what is handed to a sweep, and what its pair makes, whichever pair it is. Assumes nothing.
 use mathlib.Core.Path.{◌≡◌, refl, sym, ap, ◌∙◌}
-use mathlib.Core.Bool.{Bool, true, false, cond}
+use mathlib.Core.Bool.{Bool, true, false, cond, not, ◌||◌}
 use mathlib.Core.List.{List, [], ◌∷◌, ◌++◌}
 use Prim.Native.Nat.{ℕ, ◌≤◌}
-use lib.Dec.{ltb}
+use lib.Dec.{ltb, eqb}
 use lib.Ieee.{lt}
 use borrow.Author.Tests.{ltb-false}
 use Rattle.std.specs.Prelude.{Option, None, Some, Result, Ok, Err}
@@ -24,6 +24,7 @@ use Rattle.outcomes.specs.Operations.{no_side, tolerance_checks, rule_checks}
 use Rattle.outcomes.specs.Inner.{memory_by, swept_of, PairSwept, HasRoom}
 use Rattle.outcomes.specs.declared.Swept.{Swept}
 use Rattle.outcomes.proofs.Handed.{Side, side}
+use Rattle.outcomes.proofs.Rules.{rule_before}
 use Rattle.reading.specs.Inner.{asked_checks, below_zero, too_short, both_read, ReadBoth}
 use Rattle.reading.specs.declared.Asked.{Asked}
 use Rattle.reading.specs.declared.Asked.TheVariants as asked
@@ -41,6 +42,10 @@ unfolding tolerance_checks
 asked_first asked.Distance cs = or_none (first_of cs)
 asked_first (asked.Within d) cs = first_of_two (tolerance_checks d) cs ∙ rw (first_of_one (no_side ToleranceBelowZero) (lt d positive_zero), ← or_none (first_of cs))
 asked_first (asked.Bytes lent needed) cs = first_of_two cs (check (no_side OutputTooShort) (ltb lent needed) ∷ []) ∙ rw (first_of_one (no_side OutputTooShort) (ltb lent needed))
+
+-- 1 or 2 refuses nothing
+pub first_by_rule_lem : (rule : ℕ) (cs : List (Check Refusal)) (q : Asked) → not (eqb rule 1 || eqb rule 2) ≡ false → first_of (asked_checks q (rule_checks rule ++ cs)) ≡ first_of (asked_checks q cs)
+first_by_rule_lem rule cs q e = rw (asked_first q (rule_checks rule ++ cs), rule_before rule cs, e, asked_first q cs)
 
 -- none of them: none of the operands'
 none_asked : (q : Asked) (cs : List (Check Refusal)) → first_of (asked_checks q cs) ≡ None → first_of cs ≡ None

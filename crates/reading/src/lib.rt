@@ -8,7 +8,8 @@ ghost use Rattle.operands.specs.Operands.{lengths, operand_checks, filled};
 ghost use Rattle.operands.specs.Inner.{operands_of, Ready};
 ghost use Rattle.outcomes.specs.Lent.{lent, left};
 ghost use Rattle.outcomes.specs.Operations.{rule_checks};
-ghost use Rattle.reading.specs.Inner.{asked_checks, below_zero, too_short, first_asked, first_by_rule, both_read, ReadBoth};
+ghost use Rattle.reading.specs.Inner.{asked_checks, below_zero, too_short};
+ghost use Rattle.reading.specs.Inner.{first_asked, first_by_rule, both_read, ReadBoth};
 
 use blob::Lent;
 use operands::Operands;
@@ -46,7 +47,8 @@ impl Asked {
     }
 }
 
-// The same by a rule, of an operation that has one: a number other than 1 or 2 is refused too.
+// The same by a rule, of an operation that has one: a number other than 1 or 2 is refused too. The rule stays C's
+// number, as the definitions have it: it is looked at here, and once more where the sweep is chosen.
 #[derive(Clone, Copy)]
 pub struct Question {
     pub asked: Asked,
@@ -160,7 +162,8 @@ pub fn read_both(
     Ok(store(a, b, o, floats1, table1, floats2, table2))
 }
 
-// The same by a rule.
+// The same by a rule. It differs in its check alone, and shares the steps: with an `Option` of a rule for both, an
+// operation that has none would say so, and promise to refuse what it is never asked.
 pub fn read_by_rule(
     a: &[u8],
     b: &[u8],

@@ -1,6 +1,6 @@
 -- What lent memory holds after a call, beside what a record says that it holds. From the layouts in tools/joins,
 -- tools/jobs and crates/replay/data.
-use Rattle.std.specs.Prelude.{ℕ, Bool, true, ◌==◌, ◌&&◌, List, [], ◌∷◌, length, take, drop, nat_le, nat_eq, if◌then◌else◌}
+use Rattle.std.specs.Prelude.{ℕ, Bool, true, ◌==◌, ◌&&◌, List, [], ◌∷◌, length, take, drop, replicate, slice_index, nat_le, nat_eq, if◌then◌else◌}
 use Rattle.std.specs.Float.{binary64}
 use Rattle.std.specs.Float.Ieee.{Float, to_bits}
 use Rattle.fields.specs.Fields.{u32_at, f64_at}
@@ -27,3 +27,17 @@ floats_hold = holds_of same_float FLOAT_MARK 8 (λ s. f64_at true s 0)
 
 abbrev pub numbers_hold : List ℕ → List ℕ → Bool
 numbers_hold = holds_of (λ x y. x == y) NUMBER_MARK 4 (λ s. u32_at true s 0)
+
+-- an output's bytes
+abbrev pub bytes_hold : List ℕ → List ℕ → Bool
+bytes_hold = holds_of (λ x y. x == y) 165 1 (λ s. slice_index s 0)
+
+-- so many marks
+abbrev pub floats_lent : ℕ → List Float
+floats_lent n = replicate n FLOAT_MARK
+
+abbrev pub numbers_lent : ℕ → List ℕ
+numbers_lent n = replicate n NUMBER_MARK
+
+abbrev pub bytes_lent : ℕ → List ℕ
+bytes_lent n = replicate n 165

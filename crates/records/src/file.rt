@@ -2,7 +2,8 @@
 use std::rt::Files;
 use std::{fs, io};
 
-// The bytes of a file. One that cannot be opened is told on standard error, and there are none.
+// The bytes of a file. One that cannot be opened is told on standard error, and there are none. No clause says so: what
+// a file holds and what is printed are outside of what clauses see.
 pub fn read_file(
     rt: &(impl Files + Eprint + AllocGlobal),
     name: &str,

@@ -23,6 +23,7 @@ pub trait Lent: Copy {
     ghost copies: { (x y : Self) → Self.is_clone x y → y ≡ x };
 }
 
+// A block for each type, written out: the repository has no macro of its own.
 impl Lent for u8 {
     ghost MARK = { 165 };
 

@@ -16,6 +16,7 @@ pub trait Number: Copy {
         ensures { result ≡ value bytes.now };
 }
 
+// A block for each type, written out: the repository has no macro of its own.
 impl Number for u8 {
     ghost SIZE = { 1 };
 

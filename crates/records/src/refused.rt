@@ -18,7 +18,8 @@ impl Refused {
 }
 
 impl From<Refusal> for Refused {
-    ghost from_gives = { λ refusal r. (r.number ≡ number_of refusal.reason) × (r.side ≡ number_of_side refusal.side) };
+    ghost from_gives = { λ refusal r. (r.number ≡ number_of refusal.reason)
+        × (r.side ≡ number_of_side refusal.side) };
 
     fn from(refusal: Refusal) -> Refused {
         Refused {
@@ -43,7 +44,8 @@ impl<'a> Record<'a> for Refused {
 // What a call answers that has a size to tell, or a refusal.
 pub type Outcome = Result<usize, Refused>;
 
-// The outcome that a record's numbers tell: 1 that there is a size, 2 that there is a refusal.
+// The outcome that a record's numbers tell: 1 that there is a size, 2 that there is a refusal. Records of two numbers
+// and four cases are read by the program `replay`.
 pub fn outcome_of(case: u32, refused: Refused, size: usize) -> Result<Outcome, RecordError>
     ensures size { case ≡ 1 → refused ≡ Refused.NONE → result ≡ Ok (Ok size) }
     ensures refusal { case ≡ 2 → size ≡ 0 → result ≡ Ok (Err refused) }

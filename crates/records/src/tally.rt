@@ -30,7 +30,7 @@ impl fmt::Display for Tally {
     }
 }
 
-// A line for each record that differs, after what the line begins with.
+// A line for each record that differs, after what the line begins with. It only prints, so no clause says anything.
 pub fn report(rt: &impl Print, start: impl fmt::Display + Drop, same: &[bool]) -> io::Result<()> {
     for (number, same) in same.iter().enumerate() {
         if !*same {

@@ -1,5 +1,6 @@
 // The workspace of a blob: floats, and a table of numbers.
-ghost use Rattle.std.specs.Prelude.{◌≡◌, ◌-◌, ◌*◌, ◌≤◌, ◌&&◌, IfOk, true, length, take, drop, replicate};
+ghost use Rattle.std.specs.Prelude.{◌≡◌, ◌-◌, ◌*◌, ◌≤◌, ◌&&◌, IfOk, true};
+ghost use Rattle.std.specs.Prelude.{length, take, drop, replicate};
 ghost use Rattle.fields.specs.Fields.{u32_at};
 ghost use Rattle.records.specs.Lent.{floats_hold, numbers_hold};
 
@@ -51,6 +52,14 @@ impl<'a> Held<'a> {
         let table = from.take_numbers::<u32>(size.numbers)?;
         Ok(Held { floats, table })
     }
+
+    // Does a workspace begin with this, and keep its marks after it?
+    pub fn is_in(&self, floats: &[f64], table: &[u32]) -> bool
+        ensures { result ≡ (floats_hold floats.now self.now.floats.now
+            && numbers_hold table.now self.now.table.now) }
+    {
+        holds(floats, self.floats) && holds(table, self.table)
+    }
 }
 
 #[derive(Drop)]
@@ -68,13 +77,5 @@ impl Workspace {
         let floats = lend(alloc, size.floats)?;
         let table = lend(alloc, size.numbers)?;
         Ok(Workspace { floats, table })
-    }
-
-    // Does it begin with what is held, and keep its marks after that?
-    pub fn holds(&self, held: &Held) -> bool
-        ensures { result ≡ (floats_hold self.now.floats.items held.now.floats.now
-            && numbers_hold self.now.table.items held.now.table.now) }
-    {
-        holds(&self.floats, held.floats) && holds(&self.table, held.table)
     }
 }

@@ -44,3 +44,6 @@ start_in_blob s n p h = (patch_in_blob s n p.start p.end h).0
 
 pub end_in_blob : (s : List ℕ) (n : ℕ) (p : Part) → patch_of s n ≡ Ok (Some p) → p.end ≤ length s
 end_in_blob s n p h = (patch_in_blob s n p.start p.end h).1
+
+-- so that its bytes can be taken
+pub ruleset in_blob = (start_in_blob, end_in_blob)

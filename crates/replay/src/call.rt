@@ -1,5 +1,8 @@
 // A recorded call, and what is expected of it.
-ghost use Rattle.std.specs.Prelude.{◌*◌, ◌-◌, ◌^◌, ◌≤◌, ◌<◌, IfOk, length};
+ghost use Rattle.std.specs.Prelude.{◌≡◌, ◌↔◌, ◌*◌, ◌-◌, ◌^◌, ◌≤◌, ◌<◌, true, IfOk, length};
+ghost use Rattle.outcomes.specs.Lent.{lent, left};
+ghost use Rattle.surface.specs.Patches.{patch_of};
+ghost use Rattle.replay.specs.Calls.{called, call_of, told_patch, Expects, AsExpected};
 
 use crate::patches::patch_by_cursor;
 use crate::reply::Reply;
@@ -93,10 +96,11 @@ impl<'a> Record<'a> for Head {
     }
 }
 
-// A call on a blob, or on two; the argument is a distance's or fraction's pattern, or which patch.
+// A call on a blob, or on two; the argument is a distance's or fraction's pattern, or which patch. A number that no
+// operation has, or a reply that tells no case, is kept beside the blobs, whose patches are listed all the same.
 #[derive(Drop)]
 pub struct Call<'a> {
-    operation: Operation,
+    operation: Result<Operation, RecordError>,
     pub a: &'a [u8],
     pub b: &'a [u8],
     rule: u32,
@@ -104,7 +108,7 @@ pub struct Call<'a> {
     lent1: WorkspaceSize,
     lent2: WorkspaceSize,
     lent_output: usize,
-    reply: Reply,
+    reply: Result<Reply, RecordError>,
     output: &'a [u8],
     held1: Held<'a>,
     held2: Held<'a>,
@@ -119,7 +123,7 @@ impl<'a> Record<'a> for Call<'a> {
         let held1 = Held::read(from, head.held1)?;
         let held2 = Held::read(from, head.held2)?;
         Ok(Call {
-            operation: head.operation.try_into()?,
+            operation: head.operation.try_into(),
             a,
             b,
             rule: head.rule,
@@ -127,7 +131,7 @@ impl<'a> Record<'a> for Call<'a> {
             lent1: head.lent1,
             lent2: head.lent2,
             lent_output: head.lent_output,
-            reply: Reply::of(head.case, head.refused, head.first, head.second)?,
+            reply: Reply::of(head.case, head.refused, head.first, head.second),
             output,
             held1,
             held2,
@@ -136,34 +140,68 @@ impl<'a> Record<'a> for Call<'a> {
 }
 
 impl Call<'_> {
-    // Does the library answer, and leave memory, as expected?
-    pub fn is_same(&self, alloc: Global) -> Result<bool, AllocError> {
+    // Does the library answer, and leave memory, as expected? Not where the operation or the reply is unknown.
+    pub fn is_same(&self, alloc: Global) -> Result<bool, AllocError>
+        ensures { IfOk result (λ same. same ≡ true ↔ AsExpected self.now) }
+    {
+        let Ok(operation) = self.operation else {
+            return Ok(false);
+        };
+        let Ok(expected) = self.reply else {
+            return Ok(false);
+        };
         let mut one = Workspace::lend(alloc, self.lent1)?;
         let mut two = Workspace::lend(alloc, self.lent2)?;
         let mut output = lend(alloc, self.lent_output)?;
-        let reply = self.reply_with(&mut one, &mut two, &mut output);
-        Ok(
-            reply == self.reply
-                && self.is_same_by_cursor()
-                && one.holds(&self.held1)
-                && two.holds(&self.held2)
-                && holds(&output, self.output),
-        )
+        let is_answered = self.is_answered(
+            operation,
+            expected,
+            &mut one.floats,
+            &mut one.table,
+            &mut two.floats,
+            &mut two.table,
+            &mut output,
+        );
+        Ok(is_answered && self.is_same_by_cursor(operation, expected))
+    }
+
+    // Does the library, lent this memory, answer and leave it as expected?
+    fn is_answered(
+        &self,
+        operation: Operation,
+        expected: Reply,
+        floats1: &mut [f64],
+        table1: &mut [u32],
+        floats2: &mut [f64],
+        table2: &mut [u32],
+        output: &mut [u8],
+    ) -> bool
+        ensures { result ≡ true ↔ Expects self.now expected
+            (call_of operation self.now (lent floats1 table1 floats2 table2) output.old) }
+    {
+        let reply = self.reply_with(operation, floats1, table1, floats2, table2, output);
+        reply == expected
+            && self.held1.is_in(floats1, table1)
+            && self.held2.is_in(floats2, table2)
+            && holds(output, self.output)
     }
 
     // The library's reply, with these workspaces and this output.
-    fn reply_with(&self, one: &mut Workspace, two: &mut Workspace, output: &mut [u8]) -> Reply {
+    fn reply_with(
+        &self,
+        operation: Operation,
+        floats1: &mut [f64],
+        table1: &mut [u32],
+        floats2: &mut [f64],
+        table2: &mut [u32],
+        output: &mut [u8],
+    ) -> Reply
+        ensures { called result (left floats1 table1 floats2 table2) output.new
+            ≡ call_of operation self.now (lent floats1 table1 floats2 table2) output.old }
+    {
         let (a, b, rule) = (self.a, self.b, self.rule);
         let d = from_pattern(self.argument);
-        let Workspace {
-            floats: floats1,
-            table: table1,
-        } = one;
-        let Workspace {
-            floats: floats2,
-            table: table2,
-        } = two;
-        match self.operation {
+        match operation {
             Operation::Distance => {
                 st_3d_distance(a, b, rule, floats1, table1, floats2, table2).into()
             }
@@ -197,8 +235,11 @@ impl Call<'_> {
     }
 
     // Does the cursor answer as expected, if a patch is asked for?
-    fn is_same_by_cursor(&self) -> bool {
-        self.operation != Operation::Patch
-            || Reply::from(patch_by_cursor(self.a, self.argument)) == self.reply
+    fn is_same_by_cursor(&self, operation: Operation, expected: Reply) -> bool
+        ensures { result ≡ true ↔ (operation ≡ Operation.Patch
+            → told_patch (patch_of self.now.a.now self.now.argument) ≡ expected) }
+    {
+        operation != Operation::Patch
+            || Reply::from(patch_by_cursor(self.a, self.argument)) == expected
     }
 }

@@ -1,6 +1,7 @@
 // Replays the records of data/, calls with the answers that are expected of them, and prints for each file how many
 // records it has and how many of them differ, after a line for each that does; then how many patches the cursor lists
-// of the surfaces in it, and how many of these differ from the patches by number. data/README.md gives a record's layout.
+// of the surfaces in it, and how many of these differ from the patches by number. data/README.md gives a record's
+// layout.
 #![tactic(auto)]
 
 mod call;
@@ -37,7 +38,7 @@ fn replay(rt: &(impl Files + Print + Eprint + AllocGlobal), name: &str) -> anyho
     for call in Records::<Call>::new(&calls) {
         let Ok(call) = call else {
             same.push(false)?;
-            continue;
+            continue; // cut off
         };
         same.push(call.is_same(rt.alloc())?)?;
         compare(call.a, &mut patches)?;

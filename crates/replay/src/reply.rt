@@ -1,5 +1,8 @@
 // What a call answers, whatever the operation.
 ghost use Rattle.std.specs.Prelude.{◌≡◌, IfErr};
+ghost use Rattle.outcomes.specs.Answers.{answer_report, decision_report, written_report};
+ghost use Rattle.interpolation.specs.Operation.{interpolated_report};
+ghost use Rattle.replay.specs.Calls.{told, told_patch, told_sizes};
 
 use blob::Lent;
 use ieee754::to_pattern;
@@ -8,12 +11,13 @@ use records::{RecordError, Refused};
 use refusals::Refusal;
 use surface::{Part, PatchError};
 
+// The four cases of a record. No operation has all of them, so this is none of the library's results.
 #[derive(Clone, Copy, Debug, PartialEq, Eq)]
 pub enum Reply {
     // There is nothing, or no.
     Nothing,
-    // Yes, or a blob that was written; a distance's pattern; a part's start and end; or the lengths to lend. Numbers that
-    // are not told are 0.
+    // Yes, or a blob that was written; a distance's pattern; a part's start and end; or the lengths to lend. Numbers
+    // that are not told are 0.
     Answered(u64, u64),
     Refused(Refused),
     NoSurface,
@@ -23,9 +27,11 @@ impl Reply {
     // Yes, or a blob that was written.
     const YES: Reply = Reply::Answered(0, 0);
 
-    // The reply that a record's numbers tell.
+    // The reply that a record's numbers tell. Of cases 1 and 2 `records::outcome_of` reads one number, not two: a form
+    // for both would be longer than these two lines.
     pub fn of(case: u32, refused: Refused, first: u64, second: u64) -> Result<Reply, RecordError>
-        ensures nothing { case ≡ 0 → refused ≡ Refused.NONE → first ≡ 0 → second ≡ 0 → result ≡ Ok Reply.Nothing }
+        ensures nothing { case ≡ 0 → refused ≡ Refused.NONE → first ≡ 0 → second ≡ 0
+            → result ≡ Ok Reply.Nothing }
         ensures answered { case ≡ 1 → refused ≡ Refused.NONE → result ≡ Ok (Reply.Answered first second) }
         ensures refused { case ≡ 2 → first ≡ 0 → second ≡ 0 → result ≡ Ok (Reply.Refused refused) }
         ensures no_surface { case ≡ 3 → refused ≡ Refused.NONE → first ≡ 0 → second ≡ 0
@@ -45,6 +51,8 @@ impl Reply {
 }
 
 impl From<Answer> for Reply {
+    ghost from_gives = { λ answer reply. reply ≡ told (answer_report answer) };
+
     fn from(answer: Answer) -> Reply {
         match answer {
             Answer::Measured(d) => Reply::Answered(to_pattern(d), 0),
@@ -56,6 +64,8 @@ impl From<Answer> for Reply {
 
 // Whether it is so.
 impl From<Result<bool, Refusal>> for Reply {
+    ghost from_gives = { λ decision reply. reply ≡ told (decision_report decision) };
+
     fn from(decision: Result<bool, Refusal>) -> Reply {
         match decision {
             Ok(true) => Reply::YES,
@@ -66,6 +76,8 @@ impl From<Result<bool, Refusal>> for Reply {
 }
 
 impl From<Result<Written, Refusal>> for Reply {
+    ghost from_gives = { λ written reply. reply ≡ told (written_report written) };
+
     fn from(written: Result<Written, Refusal>) -> Reply {
         match written {
             Ok(Written::Blob) => Reply::YES,
@@ -77,6 +89,8 @@ impl From<Result<Written, Refusal>> for Reply {
 
 // A point that is written.
 impl From<Result<(), Refusal>> for Reply {
+    ghost from_gives = { λ point reply. reply ≡ told (interpolated_report point) };
+
     fn from(point: Result<(), Refusal>) -> Reply {
         match point {
             Ok(()) => Reply::YES,
@@ -86,6 +100,8 @@ impl From<Result<(), Refusal>> for Reply {
 }
 
 impl From<Result<Lent, Refusal>> for Reply {
+    ghost from_gives = { λ sizes reply. reply ≡ told_sizes sizes };
+
     fn from(sizes: Result<Lent, Refusal>) -> Reply {
         match sizes {
             Ok(Lent { floats, numbers }) => Reply::Answered(floats as u64, numbers as u64),
@@ -95,6 +111,8 @@ impl From<Result<Lent, Refusal>> for Reply {
 }
 
 impl From<Result<Option<Part>, PatchError>> for Reply {
+    ghost from_gives = { λ patch reply. reply ≡ told_patch patch };
+
     fn from(patch: Result<Option<Part>, PatchError>) -> Reply {
         match patch {
             Ok(Some(Part { start, end })) => Reply::Answered(start as u64, end as u64),

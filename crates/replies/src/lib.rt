@@ -6,7 +6,8 @@ ghost use Rattle.std.specs.Prelude.{◌≡◌};
 ghost use Rattle.interpolation.specs.Operation.{interpolated_report};
 ghost use Rattle.outcomes.specs.Answers.{answer_report, decision_report, written_report};
 ghost use Rattle.replies.specs.Replies.{reply_nothing, reply_answered, reply_refusal, reply_of};
-ghost use Rattle.replies.specs.Replies.{case_number, pair_of, pair_refusal, sizes_reply, error_reply, patch_reply, size_reply};
+ghost use Rattle.replies.specs.Replies.{case_number, pair_of, pair_refusal};
+ghost use Rattle.replies.specs.Replies.{sizes_reply, error_reply, patch_reply, size_reply};
 ghost use Rattle.replies.specs.PatchReplies.{patches_reply};
 
 use blob::Lent;

@@ -1,6 +1,6 @@
-// Takes the root of each number of data/numbers, with the digits needed and alone, and prints how many records there are
-// and how many differ, after a line for each that does. A record is three little-endian numbers of 64 bits: the pattern
-// of a number, the pattern of its root, and the digits (document 02, 2/13). A NaN is 7FF8000000000000.
+// Takes the root of each number of data/numbers, with the digits needed and alone, and prints how many records there
+// are and how many differ, after a line for each that does. A record is three little-endian numbers of 64 bits: the
+// pattern of a number, the pattern of its root, and the digits (document 02, 2/13). A NaN is 7FF8000000000000.
 #![tactic(auto)]
 
 ghost use Rattle.std.specs.Prelude.{◌≤◌, ◌-◌, length};

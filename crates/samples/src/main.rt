@@ -79,7 +79,7 @@ impl Reading {
     }
 }
 
-// A float's pattern.
+// A float's pattern. A NaN has a form of its own, since which of its patterns a read leaves is open.
 fn print_float(rt: &impl Print, float: f64) -> io::Result<()> {
     if float.is_nan() {
         print!(rt; " NaN")

@@ -206,3 +206,14 @@ pub only_nothing : (n : ℕ) (r : Part) (end : ℕ) → (n ≡ 0 → ⊥) → pa
 unfolding patch_in
 only_nothing zero r end f = absurd (f refl)
 only_nothing (suc n) r end f = refl
+
+-- what a patch by its number, a collection's, the one of a triangle, the list and the next need
+pub ruleset ranges = (past_refused, past_nothing, before_refused, itself_refused, rest_refused, all_scanned, patch_ends)
+
+pub ruleset collections = (collection_refused, collection_counted)
+
+pub ruleset only = (only_nothing, only_first)
+
+pub ruleset lists = (collection_refused, collection_counted, list_scanned, list_refused)
+
+pub ruleset steps = (scanned_part, scanned_refusing)

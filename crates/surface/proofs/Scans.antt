@@ -60,3 +60,8 @@ module _ {A : Type 0} where
   turns_end f turns count at next h i =
       let none : count - turns ≡ 0 = omega arith in
       i ∙ rw none
+
+-- what the scans of one patch and of many need
+pub ruleset counts = (counted_refused, counted_ends)
+
+pub ruleset scans = (turn_ends, turn_refused, turns_end)

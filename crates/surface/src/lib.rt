@@ -63,7 +63,7 @@ fn surface_kind(s: &[u8]) -> Option<Surface>
 }
 
 // The end of the patch at a position.
-#[tactic(auto, using(crate::proofs::Scans::counted_refused, crate::proofs::Scans::counted_ends), unfolding(crate::specs::Patches::patch_at, crate::specs::Patches::patch_from, crate::specs::Inner::scan_end))]
+#[tactic(auto, using(crate::proofs::Scans::counts), unfolding(crate::specs::Patches::patch_at, crate::specs::Patches::patch_from, crate::specs::Inner::scan_end))]
 fn scan_patch(s: &[u8], at: usize) -> Result<usize, Reason>
     ensures { result ≡ scan_end (patch_at s.now at) }
 {
@@ -73,7 +73,7 @@ fn scan_patch(s: &[u8], at: usize) -> Result<usize, Reason>
 }
 
 // The end of so many patches from a position on.
-#[tactic(auto, using(crate::proofs::Scans::turn_ends, crate::proofs::Scans::turn_refused, crate::proofs::Scans::turns_end))]
+#[tactic(auto, using(crate::proofs::Scans::scans))]
 fn scan_patches(s: &[u8], count: u64, at: usize) -> Result<usize, Reason>
     ensures { result ≡ scan_end (times ◌∷◌ [] (patch_at s.now) count at) }
 {
@@ -85,7 +85,7 @@ fn scan_patches(s: &[u8], count: u64, at: usize) -> Result<usize, Reason>
 }
 
 // Patch n of so many from a position on; every one is scanned, once.
-#[tactic(auto, using(crate::proofs::InRow::past_refused, crate::proofs::InRow::past_nothing, crate::proofs::InRow::before_refused, crate::proofs::InRow::itself_refused, crate::proofs::InRow::rest_refused, crate::proofs::InRow::all_scanned, crate::proofs::InRow::patch_ends))]
+#[tactic(auto, using(crate::proofs::InRow::ranges))]
 fn range_in(s: &[u8], count: u64, n: u64, at: usize) -> Result<Option<Part>, PatchError>
     ensures { result ≡ patch_in n (times ◌∷◌ [] (patch_at s.now) count at) }
 {
@@ -117,7 +117,7 @@ fn count_patches(s: &[u8], at: usize) -> Result<PatchList, Reason>
 }
 
 // Patch n of the collection at a position.
-#[tactic(auto, using(crate::proofs::InRow::collection_refused, crate::proofs::InRow::collection_counted), unfolding(crate::specs::Patches::patch_in))]
+#[tactic(auto, using(crate::proofs::InRow::collections), unfolding(crate::specs::Patches::patch_in))]
 fn range_of_collection(s: &[u8], at: usize, n: u64) -> Result<Option<Part>, PatchError>
     ensures { result ≡ patch_in n (patches_from s.now (header_at s.now at)) }
 {
@@ -126,7 +126,7 @@ fn range_of_collection(s: &[u8], at: usize, n: u64) -> Result<Option<Part>, Patc
 }
 
 // Where patch n of a blob stands, 0-based.
-#[tactic(auto, using(crate::proofs::InRow::only_nothing, crate::proofs::InRow::only_first), unfolding(crate::specs::Patches::patch_of, crate::specs::Patches::surface_of, crate::specs::Patches::surface_by_kind, crate::specs::Patches::patch_of_surface))]
+#[tactic(auto, using(crate::proofs::InRow::only), unfolding(crate::specs::Patches::patch_of, crate::specs::Patches::surface_of, crate::specs::Patches::surface_by_kind, crate::specs::Patches::patch_of_surface))]
 pub fn patch_range(s: &[u8], n: u64) -> Result<Option<Part>, PatchError>
     ensures { result ≡ patch_of s.now n }
 {
@@ -152,7 +152,7 @@ fn to_end(s: &[u8], start: usize) -> Part
 }
 
 // The patches of the collection at a position; every one is scanned.
-#[tactic(auto, using(crate::proofs::InRow::collection_refused, crate::proofs::InRow::collection_counted, crate::proofs::InRow::list_scanned, crate::proofs::InRow::list_refused), unfolding(crate::specs::Patches::list_in))]
+#[tactic(auto, using(crate::proofs::InRow::lists), unfolding(crate::specs::Patches::list_in))]
 fn list_of_collection(s: &[u8], at: usize) -> Result<PatchList, PatchError>
     ensures { result ≡ list_in (patches_from s.now (header_at s.now at)) }
 {
@@ -177,7 +177,7 @@ pub fn patch_list(s: &[u8]) -> Result<PatchList, PatchError>
 }
 
 // Where the next patch from a position on stands, with so many left.
-#[tactic(auto, using(crate::proofs::InRow::scanned_part, crate::proofs::InRow::scanned_refusing), unfolding(crate::specs::Patches::next_of, crate::specs::Patches::next_by_kind))]
+#[tactic(auto, using(crate::proofs::InRow::steps), unfolding(crate::specs::Patches::next_of, crate::specs::Patches::next_by_kind))]
 fn next_range(s: &[u8], at: usize, left: u64) -> Result<Option<Part>, PatchError>
     ensures { result ≡ next_of s.now at left }
 {

@@ -6,7 +6,6 @@
 
 ghost use Rattle.std.specs.Prelude.{◌≡◌, []};
 ghost use Rattle.items.specs.Items.{items_of};
-ghost use Rattle.parts.specs.Stored.{stored_runs, Laid};
 ghost use Rattle.outcomes.specs.Lent.{lent, left};
 ghost use Rattle.outcomes.specs.Answers.{nothing, blob, answering, answer_report, decision_report, written_report};
 ghost use Rattle.outcomes.specs.Operations.{outcome, closest_by_rule, closest_pair, distance, within, intersects};
@@ -17,30 +16,20 @@ ghost use Rattle.reading.specs.Inner.{first_by_rule};
 
 use gpb::{LINE_BYTES, POINT_BYTES};
 use outcomes::{Answer, Decision, Swept, WrittenBlob};
+use parts::Stored;
 use primitives::Witness;
 use reading::{Asked, Question};
 use refusals::Refusal;
 
 // The closest pair of what two workspaces hold, by a rule: where no side has a face rule 2 is rule 1, whose sweep is
 // the faster one. It is called from this place alone, so that the compiler puts it here.
-fn sweep(
-    rule: u32,
-    floats1: &[f64],
-    table1: &[u32],
-    floats2: &[f64],
-    table2: &[u32],
-    stop_at_zero: bool,
-) -> Option<Witness>
-    requires laid { Laid table1.now floats1.now }
-    requires laid_2 { Laid table2.now floats2.now }
-    ensures { result ≡ closest_by_rule rule
-        (items_of (stored_runs table1.now floats1.now))
-        (items_of (stored_runs table2.now floats2.now)) }
+fn sweep(rule: u32, a: &Stored<'_>, b: &Stored<'_>, stop_at_zero: bool) -> Option<Witness>
+    ensures { result ≡ closest_by_rule rule (items_of a.now) (items_of b.now) }
 {
-    if rule == 2 && closest_rule2::any_face(table1, table2) {
-        return closest_rule2::closest(floats1, table1, floats2, table2, stop_at_zero);
+    if rule == 2 && closest_rule2::any_face(a, b) {
+        return closest_rule2::closest(a, b, stop_at_zero);
     }
-    closest::closest(floats1, table1, floats2, table2, stop_at_zero)
+    closest::closest(a, b, stop_at_zero)
 }
 
 // The closest pair of the items of two blobs, once they are read into lent memory. Nothing is less than 0, so the
@@ -60,14 +49,9 @@ fn closest_pair(
         a.now b.now (lent floats1 table1 floats2 table2) (left floats1 table1 floats2 table2) result }
 {
     let read = reading::read_by_rule(a, b, question, floats1, table1, floats2, table2)?;
-    let found = sweep(
-        question.rule,
-        floats1,
-        &table1[..read.numbers1],
-        floats2,
-        &table2[..read.numbers2],
-        stop_at_zero,
-    );
+    let first = Stored::new(floats1, &table1[..read.numbers1]);
+    let second = Stored::new(floats2, &table2[..read.numbers2]);
+    let found = sweep(question.rule, &first, &second, stop_at_zero);
     Ok(outcomes::with_srid(found, read.srid))
 }
 

@@ -29,7 +29,8 @@ fn farthest_pair(
     table2: &mut [u32],
 ) -> Result<Option<Swept>, Refusal>
     ensures { PairSwept (first_asked asked a.now b.now (lent floats1 table1 floats2 table2))
-        (farthest_pair a.now b.now) a.now b.now (lent floats1 table1 floats2 table2) (left floats1 table1 floats2 table2) result }
+        (farthest_pair a.now b.now) a.now b.now
+        (lent floats1 table1 floats2 table2) (left floats1 table1 floats2 table2) result }
 {
     let read = reading::read_both(a, b, asked, floats1, table1, floats2, table2)?;
     let first = Stored::new(floats1, &table1[..read.numbers1]);

@@ -6,10 +6,12 @@ ghost use Rattle.std.specs.Prelude.{◌≡◌, ◌+◌, ◌*◌, ◌≤◌, true
 ghost use Rattle.std.proofs.lemmas.List.Edits.{sets};
 ghost use Rattle.std.specs.Float.{binary64};
 ghost use Rattle.std.specs.Float.Ieee.{of_bits};
-ghost use Rattle.coords.specs.Walk.{stride, stride_of, ordinate_if, m_offset, coordinate_at, coordinates_from, all_levels, walk_of};
+ghost use Rattle.coords.specs.Walk.{stride, stride_of, ordinate_if, m_offset};
+ghost use Rattle.coords.specs.Walk.{coordinate_at, coordinates_from, all_levels, walk_of};
 ghost use Rattle.coords.specs.Parts.{walked_runs};
 ghost use Rattle.coords.specs.Inner.{coordinates_runs, line_runs, rings_at_runs, members_at_runs, walk_runs};
-ghost use Rattle.workspace.specs.Workspace.{floats_per_coordinate, coordinate_floats, coordinates_floats, too_small_for, Room, RunsWritten};
+ghost use Rattle.workspace.specs.Workspace.{floats_per_coordinate, coordinate_floats, coordinates_floats};
+ghost use Rattle.workspace.specs.Workspace.{too_small_for, Room, RunsWritten};
 ghost use Rattle.workspace.specs.Inner.{ReadyToFill, Filled};
 
 use coords::{GeometryClass, WkbHeader};
@@ -60,12 +62,14 @@ fn put_coordinate(s: &[u8], h: WkbHeader, at: usize, floats: &mut [f64], i: usiz
     floats[k + 3] = ordinate_if(s, h.m, h.little, at + m_offset(h.z));
 }
 
-// n coordinates from a position on, as the i-th and on.
+// n coordinates from a position on, as the i-th and on. By index: of a loop over `chunks_exact_mut` the library does
+// not say what it leaves in the slice, and one that splits off the rest forgets what it wrote in the turns before.
 #[tactic(auto, using(crate::proofs::Laws::rows))]
 fn put_coordinates(s: &[u8], h: WkbHeader, n: usize, at: usize, floats: &mut [f64], i: usize)
     requires h_in_bounds { at + n * stride h ≤ length s.now }
     requires n_in_bounds { floats_per_coordinate * (i + n) ≤ length floats.old }
-    ensures { floats.new ≡ sets floats.old (floats_per_coordinate * i) (coordinates_floats (coordinates_from h s.now n at)) }
+    ensures { floats.new ≡ sets floats.old (floats_per_coordinate * i)
+        (coordinates_floats (coordinates_from h s.now n at)) }
 {
     let stride = coords::stride_of(h.z, h.m);
     for j in 0..n {
@@ -73,8 +77,8 @@ fn put_coordinates(s: &[u8], h: WkbHeader, n: usize, at: usize, floats: &mut [f6
     }
 }
 
-// A run of n coordinates. Floats and table stay two parameters: a struct of both, lent on, is built anew in each turn of
-// a loop.
+// A run of n coordinates. Floats and table stay two parameters: a struct of both, lent on, is built anew in each turn
+// of a loop.
 #[tactic(auto, using(crate::proofs::Runs::fills_run))]
 fn fill_run(
     s: &[u8],

@@ -1,14 +1,18 @@
--- `against::with_list` meets its contract. The invariant: what is left of the listed items, done from the best so far, gives the whole; what is known of them. Assumes nothing.
+-- `with_list` meets its contract. The loop's invariant: the rows that are left, from the present best on, give what all give; what is known of the rows;
+-- the item before, if it was measured. Assumes nothing.
 use mathlib.Core.Path.{◌≡◌}
-use mathlib.Core.List.{map}
 use lib.ListN.{drop}
-use Rattle.listing.specs.Listing.{item_in}
+use Rattle.std.specs.Prelude.{IfSome}
+use Rattle.measures.specs.InnerOffers.{AllSettled}
+use Rattle.items.specs.InnerRepeats.{second_after}
 use Rattle.items.specs.Closest.{with_each}
+use Rattle.against.specs.Indexed.{items_in}
 use Rattle.against.proofs.Known.{Walked}
 use Rattle.against.proofs.with_list.Given as goal
 
 abbrev pub invariant-loop-k : goal.invariant-loop-k
 invariant-loop-k l = record {
-  same : with_each l.probe.item l.seen (map (item_in l.floats) (drop l.k l.rows)) ≡ with_each l.probe.item l.initial.seen (map (item_in l.floats) l.rows);
-  walked : Walked l.probe.item l.floats l.rows l.seen l.known l.last l.k;
+  same : with_each l.a.item l.best (items_in (drop l.k l.rows)) ≡ with_each l.a.item l.initial.best (items_in l.rows);
+  walked : Walked l.a.item l.rows l.best l.known l.k;
+  last : IfSome l.last (λ before. AllSettled l.best (second_after l.a.item before));
 }

@@ -1,22 +1,17 @@
--- `against::with_span` meets its contract. The invariant: what is left of the span, done from the best so far, gives the whole; the floats hold the runs left; whether the last item was measured. Assumes nothing.
-use mathlib.Core.Bool.{true}
+-- `with_span` meets its contract. The loop's invariant: the items that are left, from the present best on, give what all give; the item before, if it was
+-- measured. Assumes nothing.
 use mathlib.Core.Path.{◌≡◌}
-use Prim.Native.Nat.{◌+◌, ◌-◌}
 use lib.ListN.{take}
-use Rattle.parts.specs.Stored.{run_count}
+use Rattle.std.specs.Prelude.{IfSome}
+use Rattle.std.specs.Iterator.Adapters.{take_source, take_count}
 use Rattle.measures.specs.InnerOffers.{AllSettled}
-use Rattle.items.specs.InnerRepeats.{second_before}
-use Rattle.items.specs.Inner.{item_at}
+use Rattle.items.specs.InnerRepeats.{second_after}
+use Rattle.items.specs.Inner.{items_left}
 use Rattle.items.specs.Closest.{with_each}
-use Rattle.blocks.specs.Spans.{items_past, RoomPast}
 use Rattle.against.proofs.with_span.Given as goal
 
-abbrev pub invariant-loop-r : goal.invariant-loop-r
-invariant-loop-r l = record {
-  room : RoomPast l.table l.floats l.r l.at;
-  same : with_each l.probe.item l.seen (take l.left (items_past l.class l.table l.floats l.r l.at l.j)) ≡ with_each l.probe.item l.initial.seen (take l.initial.left (items_past l.class l.table l.floats l.initial.r l.initial.at l.initial.j));
-  last : l.measured ≡ true → AllSettled l.seen (second_before l.probe.item (item_at l.class l.floats l.at l.j));
+abbrev pub invariant-loop-b : goal.invariant-loop-b
+invariant-loop-b l = record {
+  same : with_each l.a.item l.best (take (take_count l.b-iterator) (items_left (take_source l.b-iterator))) ≡ with_each l.a.item l.initial.best (take l.count (items_left l.items));
+  last : IfSome l.last (λ before. AllSettled l.best (second_after l.a.item before));
 }
-
-abbrev pub decreases-loop-r : goal.decreases-loop-r
-decreases-loop-r l = l.left + (run_count l.table - l.r)

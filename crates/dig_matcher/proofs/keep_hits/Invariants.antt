@@ -1,7 +1,6 @@
 -- `keep_hits` meets its contract. Assumes nothing.
 use mathlib.Core.Path.{◌≡◌}
 use mathlib.Core.List.{List}
-use Prim.Native.Nat.{◌-◌}
 use lib.ListN.{length, take}
 use Rattle.operands.specs.Operands.{workspaces}
 use Rattle.outcomes.proofs.Lengths.{SameLengths}
@@ -17,4 +16,4 @@ invariant-loop-hit l =
     × (l.kept ≡ placed (take (length l.initial.kept) so_far) l.initial.kept)
 
 abbrev pub decreases-loop-hit : goal.decreases-loop-hit
-decreases-loop-hit l = length l.tape - l.run.at
+decreases-loop-hit l = length l.run.rest.now

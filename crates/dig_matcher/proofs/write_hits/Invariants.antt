@@ -1,7 +1,6 @@
 -- `write_hits` meets its contract. Assumes nothing.
 use mathlib.Core.Path.{◌≡◌}
 use mathlib.Core.List.{List}
-use Prim.Native.Nat.{◌-◌}
 use lib.ListN.{length}
 use Rattle.operands.specs.Operands.{workspaces}
 use Rattle.outcomes.proofs.Lengths.{SameLengths}
@@ -18,4 +17,4 @@ invariant-loop-hit l =
     × (hit_lists l.first l.second l.distances ≡ stored (hit_lists l.initial.first l.initial.second l.initial.distances) so_far)
 
 abbrev pub decreases-loop-hit : goal.decreases-loop-hit
-decreases-loop-hit l = length l.tape - l.run.at
+decreases-loop-hit l = length l.run.rest.now

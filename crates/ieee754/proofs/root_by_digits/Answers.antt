@@ -15,10 +15,10 @@ float_from_bits-result c =
 
 pub returns : goal.returns
 returns c =
-    let b = c.args.b in
+    let b = c.args.b.bits in
     let n = c.radicand_of-n.ensures in
     let d = c.root_digits-d.ensures in
     record {
       root = ap (λ (z : ℕ). of_bits binary64 z) (c.rounded.ensures ∙ (root_rounds _ _ _ _ _ n d.root).0);
-      digits = turns_are_needed (of_bits binary64 b) (of_bits-fits binary64 b) (positive_of_pattern b c.requires) b _ _ _ _ _ (units_of_value _ _ (pattern_value b c.requires.below)) n d.root d.turns;
+      digits = turns_are_needed (of_bits binary64 b) (of_bits-fits binary64 b) (positive_of_pattern b c.args.b.finite) b _ _ _ _ _ (units_of_value _ _ (pattern_value b c.args.b.finite.below)) n d.root d.turns;
     }

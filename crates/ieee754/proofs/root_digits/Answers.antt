@@ -8,13 +8,13 @@ use Rattle.ieee754.proofs.root_digits.Goals.{else-rest-eq0-via-then-rest-eq0+els
 pub returns-then-radicand-eq0 : goal.returns-then-radicand-eq0
 returns-then-radicand-eq0 c =
     let l = c.loop-turns in
-    let w = search_early c.args.m l.q l.rest l.radicand l.turns l.invariant c.if-rest-eq0.true c.if-radicand-eq0.true in
+    let w = search_early c.args.m.digits l.q l.rest l.radicand l.turns l.invariant c.if-rest-eq0.true c.if-radicand-eq0.true in
     record { root = w.0; turns = w.1 }
 
 pub loop-turns-preserved : goal.loop-turns-preserved
 loop-turns-preserved c =
     let l = c.loop-turns in
-    let m = c.args.m in
+    let m = c.args.m.digits in
     let i = c.loop-turns-test.true in
     let more : l.rest ≡ 0 → l.radicand ≡ 0 → ⊥ = λ r z. elim c.else-rest-eq0.branch [ else-rest-eq0-via-then-rest-eq0+else-radicand-eq0 w ↦ w.if-radicand-eq0.false z | else-rest-eq0-via-else-rest-eq0 w ↦ w.if-rest-eq0.false r ] in
     search_again m l.q l.rest l.radicand l.turns _ _ _ l.invariant more
@@ -23,5 +23,5 @@ loop-turns-preserved c =
 pub returns : goal.returns
 returns c =
     let l = c.loop-turns in
-    let w = search_late c.args.m l.q l.rest l.radicand l.turns (omega arith) l.invariant in
+    let w = search_late c.args.m.digits l.q l.rest l.radicand l.turns (omega arith) l.invariant in
     record { root = w.0; turns = w.1 }

@@ -3,4 +3,4 @@ use Rattle.ieee754.proofs.DigitLoop.{Searching}
 use Rattle.ieee754.proofs.root_digits.Given as goal
 
 abbrev pub invariant-loop-turns : goal.invariant-loop-turns
-invariant-loop-turns l = Searching l.m l.q l.rest l.radicand l.turns
+invariant-loop-turns l = Searching l.fn.m.digits l.q l.rest l.radicand l.turns

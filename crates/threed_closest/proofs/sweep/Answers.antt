@@ -2,7 +2,6 @@
 use mathlib.Core.Path.{◌≡◌, sym, ◌∙◌}
 use borrow.Author.Tests.{ne_eqb, eq-eqb}
 use native.Mathlib.Omega.{arith}
-use Rattle.parts.specs.Stored.{stored_runs}
 use Rattle.items.specs.Items.{items_of}
 use Rattle.items.specs.Closest.{closest_of}
 use Rattle.outcomes.specs.Operations.{closest_by_rule}
@@ -16,6 +15,5 @@ returns-then-any_face c = c.closest.ensures ∙ rw c.if-rule-eq2.true
 pub returns : goal.returns
 unfolding closest_by_rule
 returns c = let args = c.args in
-    let same : closest_by_rule args.rule (items_of (stored_runs args.table1.now args.floats1.now)) (items_of (stored_runs args.table2.now args.floats2.now)) ≡ closest_of (items_of (stored_runs args.table1.now args.floats1.now)) (items_of (stored_runs args.table2.now args.floats2.now)) =
-    grind (arith, faceless_same args.table1.now args.table2.now args.floats1.now args.floats2.now, eq-eqb args.rule 2, ne_eqb args.rule 2) in
+    let same : closest_by_rule args.rule (items_of args.a.now) (items_of args.b.now) ≡ closest_of (items_of args.a.now) (items_of args.b.now) = grind (arith, faceless_same args.a.now args.b.now, eq-eqb args.rule 2, ne_eqb args.rule 2) in
     c.closest-2.ensures ∙ sym same

@@ -1,17 +1,13 @@
 -- `dig_matcher::tape::read_command` meets its contract. Assumes nothing.
-use Rattle.dig_matcher.specs.Inner.{StepAt}
-use Rattle.dig_matcher.proofs.TapeLaws.{end_at, unknown_broken, ran_out}
+use native.Mathlib.Omega.{arith}
+use Rattle.dig_matcher.specs.Inner.{Reads}
+use Rattle.dig_matcher.proofs.TapeLaws.{end_first, unknown_first}
 use Rattle.dig_matcher.proofs.tape.read_command.Goals as goal
 
-pub returns-then-tape-at : goal.returns-then-tape-at
-unfolding StepAt
-returns-then-tape-at c = ran_out c.args.tape.now c.args.at c.if-tape-at.true
-
 pub returns-in-4 : goal.returns-in-4
-unfolding StepAt
-returns-in-4 c = end_at c.args.tape.now c.args.at c.if-tape-at.false c.in-4.is
+unfolding Reads
+returns-in-4 c = end_first _ _ (rw c.in-4.is at c.in_ok-command.ensures.cases.0)
 
 pub returns-in_default : goal.returns-in_default
-unfolding StepAt
-returns-in_default c = let rest = c.in_default.in_default-own.rest in
-    unknown_broken c.args.tape.now c.args.at c.if-tape-at.false rest.0.0.0.1 rest.0.0.1 rest.0.1 rest.1
+unfolding Reads
+returns-in_default c = unknown_first _ _ _ c.in_ok-command.ensures.cases.0 (λ e. omega arith) (λ e. omega arith) (λ e. omega arith) (λ e. omega arith)

@@ -1,6 +1,5 @@
 -- `extremes::Best::offer` meets its contract. Assumes nothing.
 use mathlib.Core.Path.{◌≡◌, sym, ◌∙◌, subst}
-use mathlib.Core.Bool.{true≢false}
 use lib.Dec.{T}
 use lib.Ieee.{binary64, fits, of_bits}
 use Rattle.std.specs.Prelude.{Some}
@@ -9,8 +8,8 @@ use Rattle.primitives.specs.Unrooted.{rooted_of}
 use Rattle.primitives.proofs.Squares.{rooted_distance}
 use Rattle.extremes.specs.BestSoFar.{found_of, Sound}
 use Rattle.extremes.proofs.BestSoFar.{none_where_below, found_where_not_below, root_found}
-use Rattle.extremes.proofs.Offered.{sum_not_better, sum_renewed, new_sound, new_is_better, best_is_better, better_found, first_taken}
-use Rattle.extremes.proofs.Best.offer.Goals.{then-beats, else-beats, then-w-first, else-w-first}
+use Rattle.extremes.proofs.Offered.{sum_not_better, equal_sum_sound, new_sound, new_is_better, best_is_better, better_found, first_taken}
+use Rattle.extremes.proofs.Best.offer.Goals.{then-beats, then-beats-via-then-beats, then-beats-via-else-beats+then-w-first, else-beats+else-w-first}
 use Rattle.extremes.proofs.Best.offer.Goals as goal
 
 pub returns-then-in_order-clause-value : goal.returns-then-in_order-clause-value
@@ -19,8 +18,8 @@ returns-then-in_order-clause-value g c =
     let s = c.args.s in
     rw (← c.self.view_is) (sym (sum_not_better g.met.S.Sense.laws b.sum (found_of b.witness) s.sum (rooted_of s) c.self.invariant (subst T (sym c.well_formed.1.0.1.1.0.1) tt) (sym c.in_order.ensures ∙ c.if-in_order.true) (rooted_distance s)))
 
-pub invariant_of-result-then-first : goal.invariant_of-result-then-first
-invariant_of-result-then-first g c =
+pub invariant_of-self : goal.invariant_of-self
+invariant_of-self g c =
     let s = c.args.s in
     let w = c.rooted-w.result in
     let f : T (fits binary64 s.sum) = subst T (sym c.well_formed.1.0.1.1.0.1) tt in
@@ -34,9 +33,9 @@ returns-then-first-clause-value g c =
     let found : found_of (rooted_of s) ≡ Some (rooted_of s) = root_found (rooted_of s) s.sum (subst T (sym c.well_formed.1.0.1.1.0.1) tt) (rooted_distance s) in
     rw (← c.self.view_is, c.rooted-w.ensures) (found ∙ rw (none_where_below c.self.inside.witness c.if-first.true) (sym (first_taken g.S.Sense.beats (rooted_of s))))
 
-pub invariant_of-result-2 : goal.invariant_of-result-2
+pub invariant_of-self-2 : goal.invariant_of-self-2
 unfolding of_bits
-invariant_of-result-2 g c =
+invariant_of-self-2 g c =
     let s = c.args.s in
     let w = c.rooted-w.result in
     let first = c.self.inside.witness in
@@ -47,17 +46,17 @@ invariant_of-result-2 g c =
     let is_root : w.d ≡ root_of s.sum = rw c.rooted-w.ensures (rooted_distance s) in
     elim c.if-beats.branch [
       | then-beats v ↦
-          let new : c.better.result ≡ w = c.better.ensures ∙ new_is_better beats first w (sym c.beats.ensures ∙ v.if-beats.true) in
-          elim c.if-w-first.branch [
-            | then-w-first u ↦ rw (new, root_found w s.sum f is_root, u.kept-is) (new_sound s.sum w f is_root)
-            | else-w-first u ↦ absurd (true≢false (sym v.if-beats.true ∙ sym v.value-is ∙ u.if-w-first.false))
+          elim v.then-beats.branch [
+            | then-beats-via-then-beats u ↦
+                let new : c.better-self-inside.result ≡ w = c.better-self-inside.ensures ∙ new_is_better beats first w (sym c.beats.ensures ∙ u.if-beats.true) in
+                rw (new, root_found w s.sum f is_root, v.self-inside-is) (new_sound s.sum w f is_root)
+            | then-beats-via-else-beats+then-w-first u ↦
+                let same : c.better-self-inside.result ≡ first = c.better-self-inside.ensures ∙ best_is_better beats first w (sym c.beats.ensures ∙ u.if-beats.false) in
+                rw (same, found, v.self-inside-is) (equal_sum_sound g.met.S.Sense.laws c.self.inside.sum first s.sum w sound f is_root (sym c.in_order.ensures ∙ c.if-in_order.false) u.if-w-first.true)
           ]
-      | else-beats v ↦
-          let same : c.better.result ≡ first = c.better.ensures ∙ best_is_better beats first w (sym c.beats.ensures ∙ v.if-beats.false) in
-          elim c.if-w-first.branch [
-            | then-w-first u ↦ rw (same, found, u.kept-is) (sum_renewed g.met.S.Sense.laws c.self.inside.sum first s.sum w sound f is_root (sym c.in_order.ensures ∙ c.if-in_order.false) (sym v.value-is ∙ u.if-w-first.true))
-            | else-w-first u ↦ rw (same, found, u.kept-is) sound
-          ]
+      | else-beats+else-w-first v ↦
+          let same : c.better-self-inside.result ≡ first = c.better-self-inside.ensures ∙ best_is_better beats first w (sym c.beats.ensures ∙ v.if-beats.false) in
+          rw (same, found, v.self-inside-is) sound
     ]
 
 pub returns-clause-value : goal.returns-clause-value
@@ -67,4 +66,4 @@ returns-clause-value g c =
     let first = c.self.inside.witness in
     let found : found_of first ≡ Some first = found_where_not_below first c.if-first.false in
     let root : found_of (rooted_of s) ≡ Some (rooted_of s) = root_found (rooted_of s) s.sum (subst T (sym c.well_formed.1.0.1.1.0.1) tt) (rooted_distance s) in
-    rw (← c.self.view_is, found, c.better.ensures, c.rooted-w.ensures) (better_found g.S.Sense.beats first (rooted_of s) found root)
+    rw (← c.self.view_is, found, c.better-self-inside.ensures, c.rooted-w.ensures) (better_found g.S.Sense.beats first (rooted_of s) found root)
