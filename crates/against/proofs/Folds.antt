@@ -1,5 +1,5 @@
 -- Folds that skip, over joined lists and over steps that change nothing; the sweep, list after list. Assumes nothing.
-use mathlib.Core.Path.{◌≡◌, refl, ◌∙◌}
+use mathlib.Core.Path.{◌≡◌, refl, ap, ◌∙◌}
 use mathlib.Core.Logic.{inr, ⊎_elim}
 use mathlib.Core.Bool.{Bool, true, false, cond, false≢true}
 use mathlib.Core.List.{List, [], ◌∷◌, ◌++◌}
@@ -29,8 +29,10 @@ use Rattle.against.specs.Indexed.{items_in}
 use Rattle.items.specs.declared.boxed.Boxed.{Boxed}
 use Rattle.blocks.specs.declared.block.Block.{Block}
 use Rattle.blocks.specs.Blocks.{block_items}
+use Rattle.blocks.proofs.Blocks.{blocks_next}
+use Rattle.listing.proofs.Listed.{listed_next}
 use Rattle.std.specs.List.{flat_map}
-use Rattle.std.proofs.lemmas.List.{at_drop_more, at_drop_all}
+use Rattle.std.proofs.lemmas.List.{at_drop_all}
 use Prim.Native.Nat.{ℕ, zero, suc, ◌+◌, ◌<◌, ◌≤◌}
 use native.Mathlib.Omega.{arith}
 use lib.ListN.{length, get_or, take, drop}
@@ -121,15 +123,15 @@ pub take_end : (n : ℕ) (is : List Item) → (0 < n → is ≡ []) → take n i
 take_end zero is f = refl
 take_end (suc n) is f = rw (f (omega arith))
 
-pub blocks_next : (a : Item) (s : Option Witness) (blocks : List Block) (k : ℕ) (b : Block) → k < length blocks → b ≡ get_or blocks k b
+pub block_next : (a : Item) (s : Option Witness) (blocks : List Block) (k : ℕ) (b : Block) → k < length blocks → b ≡ get_or blocks k b
     → with_each a s (flat_map block_items (drop k blocks)) ≡ with_each a (with_each a s (block_items b)) (flat_map block_items (drop (k + 1) blocks))
-blocks_next a s blocks k b h e = at_drop_more (λ (l : List Block). with_each a s (flat_map block_items l)) blocks k b h ∙ rw (← e) (each_append a s (block_items b) _)
+block_next a s blocks k b h e = ap (with_each a s) (blocks_next blocks k b h) ∙ rw (← e) (each_append a s (block_items b) _)
 
 pub blocks_end : (blocks : List Block) (k : ℕ) → length blocks ≤ k → flat_map block_items (drop k blocks) ≡ []
 blocks_end blocks k h = at_drop_all (flat_map block_items) blocks k h
 
 pub rows_next : (rows : List Boxed) (k : ℕ) (row : Boxed) → k < length rows → row ≡ get_or rows k row → items_in (drop k rows) ≡ row.item ∷ items_in (drop (k + 1) rows)
-rows_next rows k row h e = at_drop_more items_in rows k row h ∙ rw (← e)
+rows_next rows k row h e = listed_next rows k row h ∙ rw (← e)
 
 pub rows_end : (rows : List Boxed) (k : ℕ) → length rows ≤ k → items_in (drop k rows) ≡ []
 rows_end rows k h = at_drop_all items_in rows k h
@@ -138,7 +140,7 @@ rows_end rows k h = at_drop_all items_in rows k h
 
 pub ruleset span_turns = (each_next, each_end, each_at_zero, take_next, take_end)
 
-pub ruleset block_turns = (each_end, each_at_zero, blocks_next, blocks_end)
+pub ruleset block_turns = (each_end, each_at_zero, block_next, blocks_end)
 
 pub ruleset row_turns = (each_next, each_end, each_at_zero, rows_next, rows_end)
 

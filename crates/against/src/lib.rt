@@ -1,6 +1,6 @@
 // One item of A against all items of B, by B's index: rows of a box and an item or items, in B's order (`Index`). An
-// item of A is skipped against the box of all of B, then a pair by its two boxes (`Best::no_closer`): a skipped pair is
-// not offered, which document 01 has so. A best of distance NaN is never replaced, so what follows may be passed over
+// item of A is skipped against the box of all of B, then a pair by its two boxes (`no_closer`): a skipped pair is not
+// offered, which document 01 has so. A best of distance NaN is never replaced, so what follows may be passed over
 // (`ends`); nor is one of 0, and the sweep stops there where it is asked to.
 // - At most 16 items (`with_list`): a row for each. Two items that follow each other in a run share candidates; what
 //   the pair before offered is not offered again (`Before`, `Item::follows`).
@@ -11,7 +11,7 @@
 ghost use Rattle.std.specs.Prelude.{◌≡◌, true, ◌&&◌, cond, ◌≤◌, List, length, take, None, Some, IfSome};
 ghost use Rattle.std.specs.List.{flat_map};
 ghost use Rattle.primitives.specs.Boxes.{least_squared_gap};
-ghost use Rattle.extremes.specs.BestSoFar.{BestFits, at_zero, Lasts};
+ghost use Rattle.extremes.specs.BestSoFar.{BestFits, found_of, at_zero, Lasts};
 ghost use Rattle.extremes.specs.ClosestSweep.{no_closer};
 ghost use Rattle.measures.specs.InnerOffers.{AllSettled};
 ghost use Rattle.items.specs.Items.{box_of_item};
@@ -27,7 +27,7 @@ ghost use Rattle.primitives.specs.declared.Witness.{Witness};
 ghost use Rattle.items.specs.declared.boxed.Boxed.{Boxed};
 
 use blocks::Block;
-use extremes::{Best, Closest};
+use extremes::{Best, BestSoFar, Closest};
 use items::{Boxed, Item, Items};
 use measures::Follows;
 use primitives::Aabb;
@@ -48,17 +48,17 @@ pub struct Target<'i, 's> {
 }
 
 // Whether the sweep may stop: at 0, where that is asked for.
-fn stops(stop_at_zero: bool, best: &Best<Closest>) -> bool
-    ensures value { result ≡ (stop_at_zero && at_zero best.now) }
-    ensures zero { result ≡ true → at_zero best.now ≡ true }
+fn stops(stop_at_zero: bool, best: &Best) -> bool
+    ensures value { result ≡ (stop_at_zero && at_zero (found_of best.now.witness)) }
+    ensures zero { result ≡ true → at_zero (found_of best.now.witness) ≡ true }
 {
     stop_at_zero && best.is_zero()
 }
 
 // Whether the rest of the sweep may be passed over: at NaN, which stays since nothing is less, and where the sweep may
 // stop.
-pub fn ends(stop_at_zero: bool, best: &Best<Closest>) -> bool
-    ensures { result ≡ true → Lasts best.now }
+pub fn ends(stop_at_zero: bool, best: &Best) -> bool
+    ensures { result ≡ true → Lasts (found_of best.now.witness) }
 {
     best.is_nan() || stops(stop_at_zero, best)
 }
@@ -69,7 +69,7 @@ pub fn ends(stop_at_zero: bool, best: &Best<Closest>) -> bool
 #[inline(always)]
 #[tactic(auto, using(crate::proofs::Known::measured), unfolding(items::specs::Closest::with_item))]
 fn with_next(
-    best: &mut Best<Closest>,
+    best: &mut BestSoFar<Closest>,
     a: &Boxed,
     b: &Boxed,
     known: bool,
@@ -104,12 +104,18 @@ fn with_next(
 
 // An item with so many items of those that are left of B, or with all of them.
 #[tactic(auto, using(crate::proofs::Folds::span_turns))]
-pub fn with_span(best: &mut Best<Closest>, stop: bool, a: &Boxed, items: Items<'_>, count: usize)
+pub fn with_span(
+    best: &mut BestSoFar<Closest>,
+    stop: bool,
+    a: &Boxed,
+    items: Items<'_>,
+    count: usize,
+)
     ensures { best.new ≡ with_each a.now.item best.old (take count (items_left items.entry)) }
 {
     let mut last = None;
     for b in items.take(count) {
-        if stops(stop, best) {
+        if stops(stop, best.best()) {
             return;
         }
         with_next(best, a, &Boxed::new(b), false, &mut last);
@@ -118,22 +124,22 @@ pub fn with_span(best: &mut Best<Closest>, stop: bool, a: &Boxed, items: Items<'
 
 // An item with a block of B, unless the block's box is no closer.
 #[tactic(auto, using(blocks::proofs::Blocks::block_passed))]
-fn with_block(best: &mut Best<Closest>, stop: bool, a: &Boxed, block: &Block<'_>)
+fn with_block(best: &mut BestSoFar<Closest>, stop: bool, a: &Boxed, block: &Block<'_>)
     ensures { best.new ≡ with_each a.now.item best.old (block_items block.now) }
 {
     if best.no_closer(a.bounds.min_dist_sq(block.bounds)) {
         return;
     }
-    with_span(best, stop, a, block.first, block.size);
+    with_span(best, stop, a, block.first, block.count);
 }
 
 // An item with blocks of B.
 #[tactic(auto, using(crate::proofs::Folds::block_turns))]
-fn with_blocks(best: &mut Best<Closest>, stop: bool, a: &Boxed, blocks: &[Block<'_>])
+fn with_blocks(best: &mut BestSoFar<Closest>, stop: bool, a: &Boxed, blocks: &[Block<'_>])
     ensures { best.new ≡ with_each a.now.item best.old (flat_map block_items blocks.now) }
 {
     for block in blocks {
-        if stops(stop, best) {
+        if stops(stop, best.best()) {
             return;
         }
         with_block(best, stop, a, block);
@@ -143,7 +149,7 @@ fn with_blocks(best: &mut Best<Closest>, stop: bool, a: &Boxed, blocks: &[Block<
 // An item with the listed items; known: which of them the item before was measured with, and then this one.
 #[tactic(auto, using(crate::proofs::Folds::row_turns, crate::proofs::Known::walk))]
 fn with_list(
-    best: &mut Best<Closest>,
+    best: &mut BestSoFar<Closest>,
     stop: bool,
     a: &Boxed,
     rows: &[Boxed],
@@ -156,7 +162,7 @@ fn with_list(
 {
     let mut last = None;
     for (k, row) in rows.iter().enumerate() {
-        if stops(stop, best) {
+        if stops(stop, best.best()) {
             return;
         }
         known[k] = with_next(best, a, row, known[k], &mut last);
@@ -190,7 +196,12 @@ impl Before {
 }
 
 // An item of A with all items of B, unless it is skipped against the box of all of them.
-pub fn with_all(best: &mut Best<Closest>, target: &Target<'_, '_>, a: &Boxed, before: &mut Before)
+pub fn with_all(
+    best: &mut BestSoFar<Closest>,
+    target: &Target<'_, '_>,
+    a: &Boxed,
+    before: &mut Before,
+)
     requires few { length (listed_rows target.now.index) ≤ most_listed }
     requires left { Left best.old before.old (listed_rows target.now.index) }
     ensures value { best.new ≡ cond (no_closer best.old (least_squared_gap (box_of_item a.now.item) target.now.all))

@@ -3,3 +3,5 @@ pub mod Covering
 pub mod Room
 pub mod Blocks
 pub mod Passing
+-- One more block, and the items that are left.
+pub mod Cutting

@@ -40,10 +40,15 @@ passed_next {all} {left} {rest} {k} {bounds} {new} {b} {i} p e b-is fit new-is =
       rest = let f = p.rest in cc;
     }
 
--- no more are left
+-- no more are left: these are all
+pub all_passed : {all left : List Item} {k : ℕ} {bounds : Aabb} → Passed all k left bounds → left ≡ [] → (size : ℕ) → k ≤ size → take k all ≡ take size all
+all_passed {all} {left} {k} {bounds} p e size h =
+    let few : length all ≤ k = omega (arith, length-drop k all, ap length (sym p.rest ∙ e)) in
+    rw (take_all size all (omega arith), take_all k all few) refl
+
 pub passed_last : {all left after : List Item} {k : ℕ} {bounds : Aabb} → Passed all k left bounds
     → left ≡ [] → after ≡ [] → (size : ℕ) → k ≤ size → Passed all size after bounds
 passed_last {all} {left} {after} {k} {bounds} p e f size h =
     let few : length all ≤ k = omega (arith, length-drop k all, ap length (sym p.rest ∙ e)) in
-    let same : take k all ≡ take size all = rw (take_all size all (omega arith), take_all k all few) refl in
+    let same = all_passed p e size h in
     record { cover = rw (← same) p.cover; fitting = rw (← same) p.fitting; rest = rw (f, drop_all size all (omega arith)) refl }

@@ -11,12 +11,15 @@ use crate::cover::{cover, empty_cover};
 use items::Items;
 use primitives::Aabb;
 
-// The next so many items, or all that are left.
+// The next so many items, or all that are left, and how many these are: a walk that asked for one more would look for it
+// through all runs.
 #[derive(Clone, Copy)]
 pub struct Block<'a> {
     pub bounds: Aabb,
     pub first: Items<'a>,
     pub size: usize,
+    pub count: usize,
+    ghost counted: { take count (items_left first) ≡ take size (items_left first) },
     ghost cover: { bounds ≡ cover_of_items (take size (items_left first)) },
     ghost fitting: { All (λ i. BoxFits (box_of_item i)) (take size (items_left first)) },
 }
@@ -34,6 +37,7 @@ impl<'a> Block<'a> {
             bounds: empty_cover(),
             first,
             size: 0,
+            count: 0,
         }
     }
 
@@ -43,11 +47,16 @@ impl<'a> Block<'a> {
         ensures left { items_left items.new ≡ drop size (items_left items.old) }
         ensures size { result.size ≡ size }
     {
+        items.reach_next();
         let first = *items;
         let mut bounds = empty_cover();
+        let mut count = 0;
         for _ in 0..size {
             match items.next() {
-                Some(item) => bounds = cover(bounds, item.bounds()),
+                Some(item) => {
+                    bounds = cover(bounds, item.bounds());
+                    count += 1;
+                }
                 None => break,
             }
         }
@@ -55,6 +64,7 @@ impl<'a> Block<'a> {
             bounds,
             first,
             size,
+            count,
         }
     }
 }

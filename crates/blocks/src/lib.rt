@@ -5,7 +5,7 @@
 mod block;
 mod cover;
 
-ghost use Rattle.std.specs.Prelude.{◌≡◌, ◌⊎◌, ◌*◌, ◌≤◌, ◌<◌, length, take};
+ghost use Rattle.std.specs.Prelude.{◌≡◌, ◌⊎◌, ◌+◌, ◌*◌, ◌/◌, ◌≤◌, ◌<◌, length, take};
 ghost use Rattle.std.specs.List.{flat_map, All};
 ghost use Rattle.items.specs.Items.{items_of};
 ghost use Rattle.blocks.specs.Blocks.{most_rows, block_items};
@@ -17,8 +17,8 @@ use parts::Stored;
 // At most so many blocks.
 const BLOCKS: usize = 128;
 
-// All items of a side, total of them, in blocks; how many these are. A block has 8 items or more, but for the last, so
-// that few items need fewer rows.
+// All items of a side, total of them, in blocks of one size; how many these are. A block has 8 items or more, but for
+// the last, so that few items need fewer rows.
 pub fn cut<'a>(total: usize, side: &Stored<'a>, rows: &mut [Block<'a>]) -> usize
     requires all { total ≡ length (items_of side.now) }
     requires room { (most_rows ≤ length rows.old) ⊎ (total ≤ 8 * length rows.old) }
@@ -26,6 +26,7 @@ pub fn cut<'a>(total: usize, side: &Stored<'a>, rows: &mut [Block<'a>]) -> usize
     ensures within { result ≤ length rows.old }
     ensures items { flat_map block_items (take result rows.new) ≡ items_of side.now }
     ensures lt_size { All (λ b. 1 < b.size) (take result rows.new) }
+    ensures same_size { All (λ b. b.size ≡ total / most_rows + 8) (take result rows.new) }
 {
     let size = total / BLOCKS + 8;
     let count = total.div_ceil(size);

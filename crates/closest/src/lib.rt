@@ -14,7 +14,7 @@ ghost use Rattle.against.specs.Indexed.{indexed_items, listed_rows};
 
 use against::{Before, Index, Target};
 use blocks::Block;
-use extremes::{Best, Closest};
+use extremes::{BestSoFar, Closest};
 use items::{Boxed, Item, Items};
 use listing::LISTED;
 use parts::{Class, Stored};
@@ -28,17 +28,17 @@ const ORIGIN: Point = Point {
 
 // All items of A, each with all items of B.
 #[tactic(auto, using(against::proofs::Folds::sweep_turns))]
-fn sweep_all(target: &Target<'_, '_>, side: &Stored<'_>) -> Best<Closest>
+fn sweep_all(target: &Target<'_, '_>, side: &Stored<'_>) -> BestSoFar<Closest>
     requires { length (listed_rows target.now.index) ≤ most_listed }
     ensures { result ≡ sweep_of target.now.all (indexed_items target.now.index) None (items_of side.now) }
 {
-    let mut best = Best::none();
+    let mut best = BestSoFar::none();
     let mut before = Before {
         item: None,
         met: [false; 16],
     };
     for item in Items::of(side) {
-        if against::ends(target.stop, &best) {
+        if against::ends(target.stop, best.best()) {
             return best;
         }
         against::with_all(&mut best, target, &Boxed::new(item), &mut before);
@@ -55,7 +55,7 @@ fn sweep_blocks<'b>(
     a: &Stored<'_>,
     b: &Stored<'b>,
     rows: &mut [Block<'b>],
-) -> Best<Closest>
+) -> BestSoFar<Closest>
     requires count { count ≡ length (items_of b.now) }
     requires room { (most_rows ≤ length rows.old) ⊎ (count ≤ 8 * length rows.old) }
     ensures { result ≡ sweep_of all (items_of b.now) None (items_of a.now) }
@@ -66,7 +66,13 @@ fn sweep_blocks<'b>(
 }
 
 // The same, with rows enough. To fill 128 of them takes longer than to sweep a few items, which need no more than 16.
-fn sweep_many(stop: bool, count: usize, all: Aabb, a: &Stored<'_>, b: &Stored<'_>) -> Best<Closest>
+fn sweep_many(
+    stop: bool,
+    count: usize,
+    all: Aabb,
+    a: &Stored<'_>,
+    b: &Stored<'_>,
+) -> BestSoFar<Closest>
     requires { count ≡ length (items_of b.now) }
     ensures { result ≡ sweep_of all (items_of b.now) None (items_of a.now) }
 {
@@ -81,14 +87,14 @@ fn sweep_many(stop: bool, count: usize, all: Aabb, a: &Stored<'_>, b: &Stored<'_
 
 // All items of A, each with all items of B, whose index is of single items if they are few.
 #[tactic(auto, using(crate::proofs::Listed::listed_some, crate::proofs::Listed::listed_nothing))]
-fn from_all(stop: bool, a: &Stored<'_>, b: &Stored<'_>) -> Best<Closest>
+fn from_all(stop: bool, a: &Stored<'_>, b: &Stored<'_>) -> BestSoFar<Closest>
     ensures { result ≡ closest_of (items_of a.now) (items_of b.now) }
 {
     let none = Boxed::new(Item::Point(ORIGIN));
     let mut rows = [none; 16];
     let list = listing::list_all(b, &mut rows);
     match list.all {
-        None => Best::none(),
+        None => BestSoFar::none(),
         Some(all) => {
             if LISTED < list.count {
                 return sweep_many(stop, list.count, all, a, b);
@@ -114,10 +120,10 @@ fn only_point(side: &Stored<'_>) -> Option<Point>
 
 // One point with all items of B: no box of B is needed.
 #[tactic(auto, using(crate::proofs::OnePoint::one_with_one, crate::proofs::OnePoint::all_taken))]
-fn from_one_point(stop: bool, p: Point, b: &Stored<'_>) -> Best<Closest>
+fn from_one_point(stop: bool, p: Point, b: &Stored<'_>) -> BestSoFar<Closest>
     ensures { result ≡ with_each (point p) None (items_of b.now) }
 {
-    let mut best = Best::none();
+    let mut best = BestSoFar::none();
     match only_point(b) {
         Some(q) => best.offer(UnrootedWitness::between(p, q)),
         None => {

@@ -1,8 +1,13 @@
 -- A side without a face has no triangle, so that rule 2's sweep is rule 1's. Assumes nothing.
-use mathlib.Core.Path.{◌≡◌, refl, sym}
+use mathlib.Core.Path.{◌≡◌, refl, sym, ap, ◌∙◌}
 use mathlib.Core.Bool.{Bool, true, false, ◌||◌, false≢true}
 use mathlib.Core.List.{List, [], ◌∷◌}
-use Prim.Native.Nat.{ℕ}
+use Prim.Native.Nat.{ℕ, ◌-◌, ◌<◌, ◌≤◌}
+use native.Mathlib.Omega.{arith}
+use lib.ListN.{length, take, drop, get_or}
+use lib.Seq.{take_all}
+use lib.Ieee.{Float}
+use Rattle.parts.specs.Stored.{stored_runs}
 use Rattle.coords.specs.Parts.{Run, run, is_face}
 use Rattle.primitives.specs.declared.Point.{Point}
 use Rattle.extremes.proofs.Lists.{Each}
@@ -11,7 +16,7 @@ use Rattle.items.specs.Closest.{closest_of}
 use Rattle.items.proofs.WithoutTriangles.{NoTriangle, no_triangle}
 use Rattle.crossings.specs.Closest.{closest_by_rule2}
 use Rattle.crossings.proofs.WithoutTriangles.{rule_2_without_triangles}
-use Rattle.closest_rule2.specs.Inner.{has_face}
+use Rattle.closest_rule2.specs.Inner.{has_face, table_has_face}
 
 neither : (a b : Bool) → (a || b) ≡ false → (a ≡ false) × (b ≡ false)
 neither true b e = absurd (false≢true (sym e))
@@ -26,7 +31,28 @@ pub face_end : has_face [] ≡ false
 unfolding has_face
 face_end = refl
 
-pub ruleset face_turns = (face_next, face_end)
+-- the same of a table: kind and count of the first run, and those of the others
+pub table_next : (table : List ℕ) → 2 ≤ length table → table_has_face table ≡ (is_face (get_or table 0 0) || table_has_face (take (length table - 2) (drop 2 table)))
+unfolding table_has_face
+table_next [] h = absurd (omega arith)
+table_next (kind ∷ []) h = absurd (omega arith)
+table_next (kind ∷ count ∷ table) h = rw (take_all (length (kind ∷ count ∷ table) - 2) table (omega arith))
+
+-- fewer than two numbers are no run
+pub table_end : (table : List ℕ) → length table < 2 → table_has_face table ≡ false
+unfolding table_has_face
+table_end [] h = refl
+table_end (kind ∷ []) h = refl
+table_end (kind ∷ count ∷ table) h = absurd (omega arith)
+
+pub ruleset table_turns = (table_next, table_end)
+
+-- what a table and floats hold has a face if the table has one
+pub stored_face : (table : List ℕ) (floats : List Float) → has_face (stored_runs table floats) ≡ table_has_face table
+unfolding table_has_face stored_runs
+stored_face [] floats = face_end
+stored_face (kind ∷ []) floats = face_end
+stored_face (kind ∷ count ∷ table) floats = face_next kind _ _ ∙ ap (λ (rest : Bool). is_face kind || rest) (stored_face table _)
 
 no_triangles : (rs : List (Run Point)) → has_face rs ≡ false → items_of_kind is_face triangle_items rs ≡ []
 unfolding has_face items_of_kind

@@ -1,5 +1,5 @@
 -- An item against a side by rule 2, and whether a side has a face. Serves inner contracts. Definitions only.
-use Rattle.std.specs.Prelude.{Bool, false, ◌||◌, cond, List, [], ◌∷◌}
+use Rattle.std.specs.Prelude.{ℕ, Bool, false, ◌||◌, cond, List, [], ◌∷◌}
 use Rattle.std.specs.declared.option.Option.{Option}
 use Rattle.primitives.specs.declared.Point.{Point}
 use Rattle.primitives.specs.declared.Witness.{Witness}
@@ -19,3 +19,9 @@ met_by_rule2 all rs best a = cond (no_closer best (least_squared_gap (box_of_ite
 unfoldable pub has_face : List (Run Point) → Bool
 has_face [] = false
 has_face (run kind ps ∷ rs) = is_face kind || has_face rs
+
+-- the same of a table of runs, kind and count for each, whatever points they have
+unfoldable pub table_has_face : List ℕ → Bool
+table_has_face [] = false
+table_has_face (kind ∷ []) = false
+table_has_face (kind ∷ count ∷ table) = is_face kind || table_has_face table

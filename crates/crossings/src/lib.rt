@@ -9,7 +9,7 @@ ghost use Rattle.crossings.specs.Crossings.{side_of, opposite_sides, counts_as_c
 ghost use Rattle.crossings.specs.Crossings.{edge_crossings, triangle_crossings, candidates_by_rule2};
 ghost use Rattle.crossings.specs.InnerCrossings.{crossing_by, offered_by, first_only, crossings_of};
 
-use extremes::{Best, Closest};
+use extremes::{BestSoFar, Closest};
 use items::Item;
 use measures::{Follows, Triangle};
 use primitives::{Point, UnrootedWitness, Witness};
@@ -123,7 +123,7 @@ pub fn crossing_between(a: Item, b: Item) -> Option<Point>
 
 // The candidates by rule 2 of an item of A with an item of B, offered in order. A crossing ends the pair.
 #[tactic(auto, using(crate::proofs::Tried::none_found))]
-pub fn offer(best: &mut Best<Closest>, a: Item, b: Item)
+pub fn offer(best: &mut BestSoFar<Closest>, a: Item, b: Item)
     ensures { best.new ≡ offered_all best.old (candidates_by_rule2 a b) }
 {
     match crossing_between(a, b) {

@@ -9,7 +9,7 @@ pub mod BoxOfAll
 pub mod EitherWay
 pub mod BoxSkips
 pub mod Taking
-pub mod BestSoFar
+pub mod KeptWitness
 pub mod Offered
 pub mod NanBest
 pub mod Repeats

@@ -21,9 +21,13 @@ module _ {order beats : Float → Float → Bool} (ρ : RootSense order beats) w
   sum_not_better sum (Some best) s w h f l r = unbeaten_stays beats (Some best) w (rw (r, h.kept) (ρ.roots s sum f h.fitting l))
 
   module _ (sum : Float) (best : Witness) (s : Float) (w : Witness) (h : Sound sum (Some best)) (f : T (fits binary64 s)) (r : w.d ≡ root_of s) where
+    -- distances that compare equal, of sums out of order, are the same float
+    pub same_distance : order s sum ≡ false → eq w.d best.d ≡ true → w.d ≡ best.d
+    same_distance l e = r ∙ ρ.equal s sum f h.fitting l (rw (r, h.kept) at e) ∙ sym h.kept
+
     -- a root that compares equal, of a sum out of order: the later sum is the best's too
     pub equal_sum_sound : order s sum ≡ false → eq w.d best.d ≡ true → Sound s (Some best)
-    equal_sum_sound l e = record { kept = h.kept ∙ sym (ρ.equal s sum f h.fitting l (rw (r, h.kept) at e)); fitting = f }
+    equal_sum_sound l e = record { kept = sym (same_distance l e) ∙ r; fitting = f }
 
 -- the same root: the best with the later sum, which spares the roots of more sums
 pub sum_renewed : (beats : Float → Float → Bool) (best w : Witness) (s : Float) → T (fits binary64 s) → w.d ≡ root_of s → beats best.d w.d ≡ false → w.d ≡ best.d → (taking beats (Some best) w ≡ Some best) × Sound s (Some best)

@@ -12,7 +12,7 @@ ghost use Rattle.extremes.specs.Extreme.{at_most, at_least};
 ghost use Rattle.extremes.specs.Sweeps.{shorter, longer, taking};
 ghost use Rattle.extremes.specs.ClosestSweep.{no_closer};
 ghost use Rattle.extremes.specs.Farthest.{no_longer};
-ghost use Rattle.extremes.specs.BestSoFar.{BestFits, at_zero, at_nan};
+ghost use Rattle.extremes.specs.BestSoFar.{BestFits, Sound, found_of, at_zero, at_nan};
 ghost use Rattle.extremes.specs.RootSense.{RootSense, shortest_roots, longest_roots};
 
 use primitives::{Point, UnrootedWitness, Witness};
@@ -86,30 +86,91 @@ impl Sense for Farthest {
     }
 }
 
-// The best witness so far, if there is one, and the sum of squares that its distance is the root of. While there is
-// none, the sum is NaN.
+// 1 - 2^-49
+const ONE_MINUS_SLACK: f64 = 0.99999999999999822364316059975;
+
+// 1 + 2^-49. The test by it stays apart from the one by the slack above: as one, a sense would have to name the slack,
+// the order of the squares and the scope's definition, for one caller each.
+const ONE_PLUS_SLACK: f64 = 1.0000000000000017763568394002504646778106689453125;
+
+// The best witness so far, and the sum of squares that its distance is the root of, which is NaN while there is none.
 // A distance below 0 stands for none: an `Option` is copied in pieces, its flag apart from the witness, and small calls
-// are slower.
+// are slower. `BestSoFar` keeps the two so; what is asked here needs the witness alone.
+#[derive(Clone, Copy)]
+pub struct Best {
+    pub sum: f64,
+    pub witness: Witness,
+}
+
+impl Best {
+    // The witness, if there is one.
+    pub fn found(&self) -> Option<Witness>
+        ensures { result ≡ found_of self.now.witness }
+    {
+        let w = self.witness;
+        if w.d < 0.0 { None } else { Some(w) }
+    }
+
+    // Whether there is one of distance 0.
+    #[tactic(auto, unfolding(crate::specs::BestSoFar::at_zero))]
+    pub fn is_zero(&self) -> bool
+        ensures { result ≡ at_zero (found_of self.now.witness) }
+    {
+        self.witness.d == 0.0
+    }
+
+    // Whether there is one whose distance is NaN.
+    #[tactic(auto, unfolding(crate::specs::BestSoFar::at_nan))]
+    pub fn is_nan(&self) -> bool
+        ensures { result ≡ at_nan (found_of self.now.witness) }
+    {
+        self.witness.d.is_nan()
+    }
+
+    // Whether a pair whose boxes are that far apart, squared, is no closer than the best.
+    #[tactic(auto, unfolding(crate::specs::ClosestSweep::no_closer))]
+    pub fn no_closer(&self, gap: f64) -> bool
+        ensures { result ≡ no_closer (found_of self.now.witness) gap }
+    {
+        let d = self.witness.d;
+        if d < 0.0 {
+            return false;
+        }
+        gap * ONE_MINUS_SLACK >= d * d
+    }
+
+    // Whether a pair that is at most that far apart, squared, is no farther apart than the best.
+    pub fn no_farther(&self, greatest: f64) -> bool
+        ensures { result ≡ no_longer (found_of self.now.witness) greatest }
+    {
+        let d = self.witness.d;
+        if d < 0.0 {
+            return false;
+        }
+        greatest * ONE_PLUS_SLACK <= d * d
+    }
+}
+
+// The best so far by a sense, whose sum is kept as `Best` says: contracts see the witness that it has, if any.
 #[derive(Drop)]
-pub struct Best<S> {
-    sum: f64,
-    witness: Witness,
+pub struct BestSoFar<S> {
+    best: Best,
     sense: PhantomData<S>,
 }
 
-impl<S> Model for Best<S> {
+impl<S> Model for BestSoFar<S> {
     ghost use Rattle.std.specs.declared.option.Option.{Option};
     ghost use Rattle.primitives.specs.declared.Witness.{Witness};
     ghost use Rattle.extremes.specs.BestSoFar.{found_of, Sound};
 
     ghost Value = { Option Witness };
 
-    ghost view = { λ b. found_of b.witness };
+    ghost view = { λ b. found_of b.best.witness };
 
-    ghost invariant = { λ b. Sound b.sum (found_of b.witness) };
+    ghost invariant = { λ b. Sound b.best.sum (found_of b.best.witness) };
 }
 
-impl<S: Sense> Best<S> {
+impl<S: Sense> BestSoFar<S> {
     // No witness yet.
     pub fn none() -> Self
         ensures { result ≡ None }
@@ -119,12 +180,14 @@ impl<S: Sense> Best<S> {
             y: 0.0,
             z: 0.0,
         };
-        Best {
-            sum: f64::NAN,
-            witness: Witness {
-                d: -1.0,
-                a: origin,
-                b: origin,
+        BestSoFar {
+            best: Best {
+                sum: f64::NAN,
+                witness: Witness {
+                    d: -1.0,
+                    a: origin,
+                    b: origin,
+                },
             },
             sense: PhantomData,
         }
@@ -139,20 +202,20 @@ impl<S: Sense> Best<S> {
         ensures fits { BestFits self.old }
     {
         let sum = s.sum;
-        if S::in_order(sum, self.sum) {
+        if S::in_order(sum, self.best.sum) {
             return;
         }
         let w = s.rooted();
-        let first = self.witness;
+        let first = self.best.witness;
         if first.d < 0.0 {
-            self.sum = sum;
-            self.witness = w;
+            self.best.sum = sum;
+            self.best.witness = w;
             return;
         }
         if S::beats(first.d, w.d) || w.d == first.d {
-            self.sum = sum;
+            self.best.sum = sum;
         }
-        self.witness = S::better(first, w);
+        self.best.witness = S::better(first, w);
     }
 
     // Whether no witness whose distance is the root of that sum changes the best. No root is taken.
@@ -161,69 +224,61 @@ impl<S: Sense> Best<S> {
         ensures rooted { result ≡ true → (s : UnrootedWitness) → s.sum ≡ sum → self.now ≡ taking S.beats self.now (rooted_of s) }
         ensures fits { BestFits self.now }
     {
-        S::in_order(sum, self.sum)
+        S::in_order(sum, self.best.sum)
+    }
+
+    // The best as it is kept.
+    pub fn best(&self) -> &Best
+        ensures value { found_of result.now.witness ≡ self.now }
+        ensures sound { Sound result.now.sum self.now }
+    {
+        &self.best
     }
 
     // What the sweep found.
     pub fn witness(self) -> Option<Witness>
         ensures { result ≡ self }
     {
-        let w = self.witness;
-        if w.d < 0.0 { None } else { Some(w) }
+        self.best.found()
     }
 
     // Whether there is a best of distance 0.
-    #[tactic(auto, using(crate::proofs::BestSoFar::sound_fits), unfolding(crate::specs::BestSoFar::at_zero))]
+    #[tactic(auto, using(crate::proofs::KeptWitness::sound_fits))]
     pub fn is_zero(&self) -> bool
         ensures value { result ≡ at_zero self.now }
         ensures fits { BestFits self.now }
     {
-        self.witness.d == 0.0
+        self.best.is_zero()
     }
 
     // Whether there is a best whose distance is NaN.
-    #[tactic(auto, using(crate::proofs::BestSoFar::sound_fits), unfolding(crate::specs::BestSoFar::at_nan))]
+    #[tactic(auto, using(crate::proofs::KeptWitness::sound_fits))]
     pub fn is_nan(&self) -> bool
         ensures value { result ≡ at_nan self.now }
         ensures fits { BestFits self.now }
     {
-        self.witness.d.is_nan()
+        self.best.is_nan()
     }
 }
 
-// 1 - 2^-49
-const ONE_MINUS_SLACK: f64 = 0.99999999999999822364316059975;
-
-impl Best<Closest> {
+impl BestSoFar<Closest> {
     // Whether a pair whose boxes are that far apart, squared, is no closer than the best.
-    #[tactic(auto, using(crate::proofs::BestSoFar::sound_fits), unfolding(crate::specs::ClosestSweep::no_closer))]
+    #[tactic(auto, using(crate::proofs::KeptWitness::sound_fits))]
     pub fn no_closer(&self, gap: f64) -> bool
         ensures value { result ≡ no_closer self.now gap }
         ensures fits { BestFits self.now }
     {
-        let d = self.witness.d;
-        if d < 0.0 {
-            return false;
-        }
-        gap * ONE_MINUS_SLACK >= d * d
+        self.best.no_closer(gap)
     }
 }
 
-// 1 + 2^-49. The test by it stays apart from the one above: as one, a sense would have to name the slack, the order of
-// the squares and the scope's definition, for one caller each.
-const ONE_PLUS_SLACK: f64 = 1.0000000000000017763568394002504646778106689453125;
-
-impl Best<Farthest> {
+impl BestSoFar<Farthest> {
     // Whether a pair that is at most that far apart, squared, is no farther apart than the best.
-    #[tactic(auto, using(crate::proofs::BestSoFar::sound_fits))]
+    #[tactic(auto, using(crate::proofs::KeptWitness::sound_fits))]
     pub fn no_farther(&self, greatest: f64) -> bool
         ensures value { result ≡ no_longer self.now greatest }
         ensures fits { BestFits self.now }
     {
-        let d = self.witness.d;
-        if d < 0.0 {
-            return false;
-        }
-        greatest * ONE_PLUS_SLACK <= d * d
+        self.best.no_farther(greatest)
     }
 }

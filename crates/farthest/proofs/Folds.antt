@@ -1,7 +1,8 @@
 -- One turn of a loop over the points of a run, or over runs: what is left, from the present state on, gives what all gives. Assumes nothing.
-use mathlib.Core.Path.{◌≡◌, refl}
+use mathlib.Core.Path.{◌≡◌, refl, sym}
 use mathlib.Core.Bool.{Bool, cond}
 use mathlib.Core.List.{List, [], ◌∷◌, ◌++◌, flatten, foldl-append}
+use Rattle.std.proofs.lemmas.List.{append_assoc}
 use Rattle.std.specs.declared.option.Option.{Option}
 use Rattle.primitives.specs.declared.Point.{Point}
 use Rattle.primitives.specs.declared.Witness.{Witness}
@@ -34,6 +35,18 @@ module _ (best : Option Witness) (p : Point) where
   pub from_last_run : (runs : List (List Point)) → runs ≡ [] → farthest_from (flatten runs) best p ≡ best
   unfolding flatten
   from_last_run runs e = from_end (flatten runs) (rw e)
+
+flatten_append : (l m : List (List Point)) → flatten (l ++ m) ≡ flatten l ++ flatten m
+unfolding flatten
+flatten_append [] m = refl
+flatten_append (ps ∷ l) m = rw (flatten_append l m) (sym (append_assoc ps (flatten l) (flatten m)))
+
+-- class after class
+pub from_classes : (best : Option Witness) (p : Point) (points lines faces : List (List Point))
+    → farthest_from (flatten (points ++ (lines ++ faces))) best p ≡ farthest_from (flatten faces) (farthest_from (flatten lines) (farthest_from (flatten points) best p) p) p
+from_classes best p points lines faces =
+    rw (flatten_append points (lines ++ faces), flatten_append lines faces, from_append best p (flatten points) (flatten lines ++ flatten faces))
+    (from_append (farthest_from (flatten points) best p) p (flatten lines) (flatten faces))
 
 -- ---- a box with points
 

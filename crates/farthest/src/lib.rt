@@ -21,7 +21,7 @@ ghost use Rattle.coords.specs.Parts.{vertices_of};
 ghost use Rattle.extremes.specs.Farthest.{farthest_from, farthest_of};
 ghost use Rattle.farthest.specs.Inner.{has_vertices, class_runs, runs_once, empty_box, box_with, swept};
 
-use extremes::{Best, Farthest};
+use extremes::{BestSoFar, Farthest};
 use parts::{Class, Points, Run, Runs, Stored};
 use primitives::{Aabb, Point, UnrootedWitness, Witness};
 use std::marker::Model;
@@ -176,20 +176,14 @@ impl<'a> Iterator for VertexRuns<'a> {
     }
 }
 
-// One vertex of side 1 against side 2, unless it is skipped: no vertex in the box is farther from p than the best pair
-// is apart. Nothing is longer than NaN, so a NaN best stays. No root is taken where the sum of squares is no greater
-// than the best pair's.
-#[tactic(auto, using(crate::proofs::Visits::visits, crate::proofs::Folds::from_turns))]
-fn visit(best: &mut Best<Farthest>, p: Point, others: &VertexRuns<'_>, around: Aabb)
-    ensures { best.new ≡ swept around (flatten others.now) best.old (p ∷ []) }
+// A vertex of side 1 against those of a class of side 2. No root is taken where the sum of squares is no greater than
+// the best pair's. Class by class: the walk through all three costs more at each run than its points do, where they are
+// few.
+#[tactic(auto, using(crate::proofs::Folds::from_turns))]
+fn against_class(best: &mut BestSoFar<Farthest>, p: Point, runs: ClassRuns<'_>)
+    ensures { best.new ≡ farthest_from (flatten runs.entry) best.old p }
 {
-    if best.is_nan() {
-        return;
-    }
-    if best.no_farther(Aabb::point(p).max_dist_sq(around)) {
-        return;
-    }
-    for points in others.again() {
+    for points in runs {
         for q in points {
             let pair = UnrootedWitness::between(p, q);
             if !best.excludes(pair.sum) {
@@ -199,6 +193,23 @@ fn visit(best: &mut Best<Farthest>, p: Point, others: &VertexRuns<'_>, around: A
     }
 }
 
+// One vertex of side 1 against side 2, unless it is skipped: no vertex in the box is farther from p than the best pair
+// is apart. Nothing is longer than NaN, so a NaN best stays.
+#[tactic(auto, using(crate::proofs::Visits::visits, crate::proofs::Folds::from_classes))]
+fn visit(best: &mut BestSoFar<Farthest>, p: Point, others: &VertexRuns<'_>, around: Aabb)
+    ensures { best.new ≡ swept around (flatten others.now) best.old (p ∷ []) }
+{
+    if best.is_nan() {
+        return;
+    }
+    if best.no_farther(Aabb::point(p).max_dist_sq(around)) {
+        return;
+    }
+    against_class(best, p, others.points.again());
+    against_class(best, p, others.lines.again());
+    against_class(best, p, others.faces.again());
+}
+
 // The farthest pair of a vertex of side 1 and one of side 2, if both have one.
 #[tactic(auto, using(crate::proofs::Folds::swept_turns, crate::proofs::VerticesOnce::farthest_by_runs))]
 pub fn farthest(a: &Stored<'_>, b: &Stored<'_>) -> Option<Witness>
@@ -206,7 +217,7 @@ pub fn farthest(a: &Stored<'_>, b: &Stored<'_>) -> Option<Witness>
 {
     let others = VertexRuns::of(b);
     let around = others.bounds();
-    let mut best = Best::none();
+    let mut best = BestSoFar::none();
     for points in VertexRuns::of(a) {
         for p in points {
             visit(&mut best, p, &others, around);

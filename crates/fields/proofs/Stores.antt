@@ -3,9 +3,10 @@ use mathlib.Core.Path.{◌≡◌, sym, ap, ◌∙◌}
 use mathlib.Core.List.{List, [], ◌∷◌, ◌++◌}
 use Prim.Native.Nat.{ℕ, suc, ◌+◌, ◌<◌, ◌≤◌}
 use native.Mathlib.Nat.{zero-add, add-zero}
+use native.Mathlib.Numerals.{add-one}
 use native.Mathlib.Omega.{arith}
 use lib.ListN.{length, get_or, set, take, drop, length-append, get_or-append}
-use lib.Seq.{sets, sets-eq, length-take-le, get_or-append-add}
+use lib.Seq.{sets, sets-eq, length-take-le, get_or-append-add, drop-cons}
 
 module _ {A : Type 0} where
   -- two rows, the second behind the first, are one
@@ -14,6 +15,14 @@ module _ {A : Type 0} where
   sets_append (x ∷ xs) ys l i =
       let e : suc i + length xs ≡ i + suc (length xs) = omega arith in
       sets_append xs ys (set l i x) (suc i) ∙ ap (λ (k : ℕ). sets (sets (set l i x) (suc i) xs) k ys) e
+
+  -- a row from i on begins with its element i
+  pub sets_turn : (s l : List A) (at i : ℕ) (z : A) → i < length s → sets l (at + i) (drop i s) ≡ sets (set l (at + i) (get_or s i z)) (at + (i + 1)) (drop (i + 1) s)
+  sets_turn s l at i z h =
+      let e : suc (at + i) ≡ at + (i + 1) = omega arith in
+      ap (sets l (at + i)) (drop-cons s i z h)
+      ∙ ap (λ (k : ℕ). sets (set l (at + i) (get_or s i z)) k (drop (suc i) s)) e
+      ∙ ap (λ (k : ℕ). sets (set l (at + i) (get_or s i z)) (at + (i + 1)) (drop k s)) (sym (add-one i))
 
   -- a row from the start on stands before what is left
   pub sets_front : (n : ℕ) (xs l : List A) → length xs ≡ n → n ≤ length l → sets l 0 xs ≡ xs ++ drop n l

@@ -88,9 +88,10 @@ pub ruleset class_turns = (runs_none, run_passed, points_begun, line_begun, face
 
 -- ---- of a side
 
-pub all_left : (rs : List (Run Point)) → class_items Points rs ++ later_class_items Points rs ≡ items_of rs
+pub all_left : (rs ls fs : List (Run Point)) → class_items Lines ls ≡ class_items Lines rs → class_items Faces fs ≡ class_items Faces rs
+    → class_items Points rs ++ later_class_items Points ls fs ≡ items_of rs
 unfolding items_of later_class_items is_of
-all_left rs = refl
+all_left rs ls fs e f = rw (e, f) refl
 
 -- ---- of so many
 

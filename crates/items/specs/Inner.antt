@@ -9,6 +9,7 @@ use Rattle.parts.specs.declared.Class.{Class}
 use Rattle.parts.specs.declared.Class.TheVariants.{Points, Lines, Faces}
 use Rattle.items.specs.declared.walk.ClassItems.{ClassItems}
 use Rattle.items.specs.declared.walk.Items.{Items}
+use Rattle.items.specs.declared.walk.LaterRuns.{LaterRuns}
 use Rattle.items.specs.declared.Item.{Item}
 use Rattle.items.specs.Items.{fan, point_items, segment_items, triangle_items, items_of_kind}
 
@@ -44,12 +45,16 @@ later_run_items s = class_items s.class (runs_left s)
 unfoldable pub class_items_left : ClassItems → List Item
 class_items_left s = run_left s ++ later_run_items s
 
--- of the classes after a class
-unfoldable pub later_class_items : Class → List (Run Point) → List Item
-later_class_items Points rs = class_items Lines rs ++ class_items Faces rs
-later_class_items Lines rs = class_items Faces rs
-later_class_items Faces rs = []
+-- the runs of a side from its first of a class on
+abbrev pub runs_from : LaterRuns → List (Run Point)
+runs_from s = stored_runs s.table.now s.floats.now
+
+-- of the classes after a class, by the runs that have the lines and those that have the faces
+unfoldable pub later_class_items : Class → List (Run Point) → List (Run Point) → List Item
+later_class_items Points ls fs = class_items Lines ls ++ class_items Faces fs
+later_class_items Lines ls fs = class_items Faces fs
+later_class_items Faces ls fs = []
 
 -- of all classes
 unfoldable pub items_left : Items → List Item
-items_left s = class_items_left s.left ++ later_class_items s.left.class (stored_runs s.table.now s.floats.now)
+items_left s = class_items_left s.left ++ later_class_items s.left.class (runs_from s.lines) (runs_from s.faces)

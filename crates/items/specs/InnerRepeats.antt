@@ -1,13 +1,16 @@
 -- Witnesses that an item of a run hands on to the next: where it was measured with an item of the other side, not skipped, they are settled there. Serves inner contracts. Definitions only.
-use Rattle.std.specs.Prelude.{◌≡◌, true, List, [], ◌∷◌}
+use Rattle.std.specs.Prelude.{ℕ, ◌+◌, ◌<◌, ◌≡◌, true, List, [], ◌∷◌, length, get_or}
 use Rattle.std.specs.declared.option.Option.{Option}
+use Rattle.primitives.specs.declared.Point.{Point}
 use Rattle.primitives.specs.declared.Witness.{Witness}
 use Rattle.primitives.specs.Witnesses.{flipped_of}
 use Rattle.measures.specs.declared.Follows.{Follows}
 use Rattle.measures.specs.Measures.{point_triangle}
 use Rattle.measures.specs.InnerOffers.{AllSettled, shared_by_first, shared_by_second}
+use Rattle.parts.specs.declared.Class.{Class}
 use Rattle.items.specs.declared.Item.{Item}
 use Rattle.items.specs.declared.Item.TheVariants.{Point as point, Segment as segment, Triangle as triangle}
+use Rattle.items.specs.Inner.{items_by}
 
 -- what an item of A leaves to the next of its run: the witness of a segment's end; those of a fan's first and last vertex, and of the edge from the last to the first, which the next has too only if it closes the ring
 unfoldable pub first_after : Item → Item → List Witness
@@ -44,6 +47,15 @@ second_before (segment s e) i = []
 second_before (triangle t) (point q) = []
 second_before (triangle t) (segment s e) = flipped_of (point_triangle s t) ∷ []
 second_before (triangle t) (triangle u) = shared_by_second t u.a u.b
+
+-- of the items of a class that a run's points give, one comes right after the other
+pub record NextOfRun (before next : Item) : Type 0 where
+  pub class : Class
+  pub points : List Point
+  pub at : ℕ
+  pub within : at + 1 < length (items_by class points)
+  pub here : get_or (items_by class points) at before ≡ before
+  pub after : get_or (items_by class points) (at + 1) next ≡ next
 
 -- at that best, what a, or b, has of the item before it changes nothing, where it follows a measured one
 pub record HandsOn (a b : Item) (follows : Follows) (best : Option Witness) : Type 0 where

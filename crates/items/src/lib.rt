@@ -12,10 +12,10 @@ ghost use Rattle.items.specs.declared.Item.{Item as AnItem};
 ghost use Rattle.items.specs.declared.Item.TheVariants.{Point as point, Segment as segment, Triangle as triangle};
 ghost use Rattle.items.specs.Items.{box_of_item};
 ghost use Rattle.items.specs.Candidates.{candidates_of};
-ghost use Rattle.items.specs.InnerRepeats.{first_after, first_before, second_after, second_before, HandsOn};
+ghost use Rattle.items.specs.InnerRepeats.{first_after, first_before, second_after, second_before, NextOfRun, HandsOn};
 
 pub use boxed::Boxed;
-use extremes::{Best, Closest};
+use extremes::{BestSoFar, Closest};
 use measures::{Follows, Triangle};
 use primitives::{Aabb, Point, UnrootedWitness};
 pub use walk::Items;
@@ -29,7 +29,7 @@ pub enum Item {
 }
 
 // The start of a segment with a triangle, unless it was measured before.
-fn segment_start(best: &mut Best<Closest>, s: Point, t: Triangle, flip: bool, again: bool)
+fn segment_start(best: &mut BestSoFar<Closest>, s: Point, t: Triangle, flip: bool, again: bool)
     requires { again ≡ true → taking shorter best.old (flipped_if flip (point_triangle s t)) ≡ best.old }
     ensures { best.new ≡ taking shorter best.old (flipped_if flip (point_triangle s t)) }
 {
@@ -41,7 +41,7 @@ fn segment_start(best: &mut Best<Closest>, s: Point, t: Triangle, flip: bool, ag
 
 // A segment of A with a triangle of B.
 #[tactic(auto, unfolding(crate::specs::Candidates::candidates_of, crate::specs::InnerRepeats::first_before, measures::specs::InnerOffers::AllSettled))]
-fn segment_triangle(best: &mut Best<Closest>, s: Point, e: Point, t: Triangle, follows: bool)
+fn segment_triangle(best: &mut BestSoFar<Closest>, s: Point, e: Point, t: Triangle, follows: bool)
     requires { follows ≡ true → AllSettled best.old (first_before (segment s e) (triangle t)) }
     ensures { best.new ≡ offered_all best.old (candidates_of (segment s e) (triangle t)) }
 {
@@ -53,7 +53,7 @@ fn segment_triangle(best: &mut Best<Closest>, s: Point, e: Point, t: Triangle, f
 // A triangle of A with a segment of B: the one above, mirrored. One function of both would turn every measure by a
 // flag.
 #[tactic(auto, unfolding(crate::specs::Candidates::candidates_of, crate::specs::InnerRepeats::second_before, measures::specs::InnerOffers::AllSettled))]
-fn triangle_segment(best: &mut Best<Closest>, t: Triangle, s: Point, e: Point, follows: bool)
+fn triangle_segment(best: &mut BestSoFar<Closest>, t: Triangle, s: Point, e: Point, follows: bool)
     requires { follows ≡ true → AllSettled best.old (second_before (triangle t) (segment s e)) }
     ensures { best.new ≡ offered_all best.old (candidates_of (triangle t) (segment s e)) }
 {
@@ -67,7 +67,7 @@ fn triangle_segment(best: &mut Best<Closest>, t: Triangle, s: Point, e: Point, f
 
 // A point of A with an item of B.
 #[tactic(auto, unfolding(crate::specs::Candidates::candidates_of))]
-fn with_point(best: &mut Best<Closest>, p: Point, other: Item)
+fn with_point(best: &mut BestSoFar<Closest>, p: Point, other: Item)
     ensures { best.new ≡ offered_all best.old (candidates_of (point p) other) }
 {
     match other {
@@ -79,7 +79,7 @@ fn with_point(best: &mut Best<Closest>, p: Point, other: Item)
 
 // A segment of A with an item of B.
 #[tactic(auto, unfolding(crate::specs::Candidates::candidates_of))]
-fn with_segment(best: &mut Best<Closest>, s: Point, e: Point, other: Item, follows: bool)
+fn with_segment(best: &mut BestSoFar<Closest>, s: Point, e: Point, other: Item, follows: bool)
     requires { follows ≡ true → AllSettled best.old (first_before (segment s e) other) }
     ensures { best.new ≡ offered_all best.old (candidates_of (segment s e) other) }
 {
@@ -92,7 +92,7 @@ fn with_segment(best: &mut Best<Closest>, s: Point, e: Point, other: Item, follo
 
 // A triangle of A with an item of B.
 #[tactic(auto, unfolding(crate::specs::Candidates::candidates_of, crate::specs::InnerRepeats::first_before, crate::specs::InnerRepeats::second_before))]
-fn with_triangle(best: &mut Best<Closest>, t: Triangle, other: Item, follows: Follows)
+fn with_triangle(best: &mut BestSoFar<Closest>, t: Triangle, other: Item, follows: Follows)
     requires { HandsOn (triangle t) other follows best.old }
     ensures { best.new ≡ offered_all best.old (candidates_of (triangle t) other) }
 {
@@ -118,8 +118,9 @@ impl Item {
 
     // Whether it has what the next of a run shares with the item before it, bit for bit: a segment's end, a triangle's
     // first and last vertex.
-    #[tactic(auto, unfolding(crate::specs::InnerRepeats::first_after, crate::specs::InnerRepeats::first_before, crate::specs::InnerRepeats::second_after, crate::specs::InnerRepeats::second_before))]
+    #[tactic(auto, using(crate::proofs::Turns::following))]
     pub fn follows(self, before: Item) -> bool
+        ensures run { result ≡ true → NextOfRun before self }
         ensures first { result ≡ true → (b : AnItem) → first_after before b ≡ first_before self b }
         ensures second { result ≡ true → (a : AnItem) → second_after a before ≡ second_before a self }
     {
@@ -133,7 +134,7 @@ impl Item {
     // The candidates of an item of A with an item of B, offered in order, less those that the item before either
     // offered, where that one was measured and this one follows it.
     // One match within the other: a match of both would copy the two items first.
-    pub fn offer(self, best: &mut Best<Closest>, other: Item, follows: Follows)
+    pub fn offer(self, best: &mut BestSoFar<Closest>, other: Item, follows: Follows)
         requires { HandsOn self other follows best.old }
         ensures { best.new ≡ offered_all best.old (candidates_of self other) }
     {

@@ -32,6 +32,7 @@ struct ClassItems<'a> {
 }
 
 impl<'a> ClassItems<'a> {
+    ghost use Rattle.std.specs.Prelude.{false};
     ghost use Rattle.items.specs.Inner.{class_items, run_left, runs_left, later_run_items, class_items_left};
 
     // Those of all runs.
@@ -102,6 +103,31 @@ impl<'a> ClassItems<'a> {
         }
         None
     }
+
+    // Whether the run has an item left.
+    #[inline(always)]
+    fn run_has_next(&self) -> bool
+        ensures { result ≡ false → run_left self.now ≡ [] }
+    {
+        let mut ahead = *self;
+        ahead.next_of_run().is_some()
+    }
+
+    // Goes on to the run that has the next item; whether there is one.
+    #[tactic(auto, unfolding(crate::specs::Inner::class_items_left))]
+    fn reach_next(&mut self) -> bool
+        ensures left { class_items_left self.new ≡ class_items_left self.old }
+        ensures none { result ≡ false → class_items_left self.new ≡ [] }
+        ensures class { self.new.class ≡ self.old.class }
+    {
+        while !self.run_has_next() {
+            match self.next_run() {
+                Some(next) => *self = next,
+                None => return false,
+            }
+        }
+        true
+    }
 }
 
 impl<'a> Iterator for ClassItems<'a> {
@@ -125,14 +151,45 @@ impl<'a> Iterator for ClassItems<'a> {
     }
 }
 
+// The runs of a side from its first of a class on.
+#[derive(Clone, Copy)]
+struct LaterRuns<'a> {
+    table: &'a [u32],
+    floats: &'a [f64],
+    ghost laid: { Laid table.now floats.now } by { laid_prop table.now floats.now },
+}
+
+impl<'a> LaterRuns<'a> {
+    ghost use Rattle.items.specs.Inner.{class_items, runs_from};
+
+    // Those of a side: what is before the first is passed over here once, and not by each walk that comes to the class.
+    #[tactic(auto, using(crate::proofs::Left::class_turns))]
+    fn of(class: Class, side: &Stored<'a>) -> LaterRuns<'a>
+        ensures { class_items class (runs_from result) ≡ class_items class side.now }
+    {
+        let mut runs = side.runs();
+        let mut left = runs.again();
+        while let Some(run) = left.next() {
+            if class.holds(run.kind) {
+                break;
+            }
+            runs = left.again();
+        }
+        let from = runs.slices();
+        LaterRuns {
+            table: from.0,
+            floats: from.1,
+        }
+    }
+}
+
 // All items of a side that are left: points, then segments, then triangles.
 #[derive(Clone, Copy)]
 pub struct Items<'a> {
     left: ClassItems<'a>,
-    // Of all runs, for the classes after.
-    table: &'a [u32],
-    floats: &'a [f64],
-    ghost laid: { Laid table.now floats.now } by { laid_prop table.now floats.now },
+    // For the classes after.
+    lines: LaterRuns<'a>,
+    faces: LaterRuns<'a>,
 }
 
 impl<'a> Items<'a> {
@@ -147,8 +204,23 @@ impl<'a> Items<'a> {
         let (table, floats) = side.runs().slices();
         Items {
             left: ClassItems::of(Class::Points, table, floats),
-            table,
-            floats,
+            lines: LaterRuns::of(Class::Lines, side),
+            faces: LaterRuns::of(Class::Faces, side),
+        }
+    }
+
+    // Goes on to the run that has the next item, so that a walk that is taken up there need not look for it again.
+    #[tactic(auto, unfolding(crate::specs::Inner::items_left, crate::specs::Inner::later_class_items))]
+    pub fn reach_next(&mut self)
+        ensures { items_left self.new ≡ items_left self.old }
+    {
+        while !self.left.reach_next() {
+            let (lines, faces) = (self.lines, self.faces);
+            self.left = match self.left.class {
+                Class::Points => ClassItems::of(Class::Lines, lines.table, lines.floats),
+                Class::Lines => ClassItems::of(Class::Faces, faces.table, faces.floats),
+                Class::Faces => return,
+            };
         }
     }
 }
@@ -169,12 +241,12 @@ impl<'a> Iterator for Items<'a> {
             if let Some(item) = self.left.next() {
                 return Some(item);
             }
-            let next = match self.left.class {
-                Class::Points => Class::Lines,
-                Class::Lines => Class::Faces,
+            let (next, runs) = match self.left.class {
+                Class::Points => (Class::Lines, self.lines),
+                Class::Lines => (Class::Faces, self.faces),
                 Class::Faces => return None,
             };
-            self.left = ClassItems::of(next, self.table, self.floats);
+            self.left = ClassItems::of(next, runs.table, runs.floats);
         }
     }
 }

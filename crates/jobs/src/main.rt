@@ -9,9 +9,25 @@ use dig_matcher::job;
 use ieee754::to_pattern;
 use records::{
     Outcome, Reader, Record, RecordError, Records, Refused, Tally, Workspace, WorkspaceSize,
-    changed, lend, outcome_of, read_file, report,
+    changed, lend, outcome_if_lent, read_file, report,
 };
 use std::alloc::{AllocError, Global};
+use std::io;
+
+// Room for a whole file.
+const ROOM: u64 = 1048576;
+
+// The memory of which a job is lent the first places: each side's workspace, and each list.
+const WORKSPACE: WorkspaceSize = WorkspaceSize {
+    floats: 256,
+    numbers: 64,
+};
+
+const LISTS: ListSizes = ListSizes {
+    first: 64,
+    second: 64,
+    distances: 64,
+};
 
 // Two numbers, and the pattern of the distance.
 #[derive(Clone, Copy, PartialEq, Eq, PartialOrd, Ord)]
@@ -102,14 +118,15 @@ impl Lists {
     }
 }
 
-// A tape, what is lent for it, and what is expected: the number of hits, and the hits.
+// A tape, what is lent for it, and what is expected: the number of hits, and the hits. No outcome: more is lent than
+// there is.
 #[derive(Drop)]
 struct Call<'a> {
     tape: &'a [u8],
     lent1: WorkspaceSize,
     lent2: WorkspaceSize,
     lists: ListSizes,
-    outcome: Outcome,
+    outcome: Option<Outcome>,
     hits: &'a [u8],
 }
 
@@ -129,7 +146,7 @@ impl<'a> Record<'a> for Call<'a> {
             lent1,
             lent2,
             lists,
-            outcome: outcome_of(case, refused, count)?,
+            outcome: outcome_if_lent(case, refused, count)?,
             hits,
         })
     }
@@ -145,33 +162,42 @@ impl Call<'_> {
         Ok(hits)
     }
 
+    // What the job answers, lent the first places of this memory; none where there are fewer than the record lends.
+    fn answer(
+        &self,
+        one: &mut Workspace,
+        two: &mut Workspace,
+        lists: &mut Lists,
+    ) -> Option<Outcome> {
+        let (floats1, _) = one.floats.split_at_mut_checked(self.lent1.floats)?;
+        let (table1, _) = one.table.split_at_mut_checked(self.lent1.numbers)?;
+        let (floats2, _) = two.floats.split_at_mut_checked(self.lent2.floats)?;
+        let (table2, _) = two.table.split_at_mut_checked(self.lent2.numbers)?;
+        let (first, _) = lists.first.split_at_mut_checked(self.lists.first)?;
+        let (second, _) = lists.second.split_at_mut_checked(self.lists.second)?;
+        let (distances, _) = lists.distances.split_at_mut_checked(self.lists.distances)?;
+        let answer = job(
+            self.tape, floats1, table1, floats2, table2, first, second, distances,
+        );
+        Some(answer.map_err(Refused::from))
+    }
+
     // Does the job answer, and leave the lists, as expected?
     fn is_same(&self, alloc: Global) -> Result<bool, AllocError> {
-        let mut one = Workspace::lend(alloc, self.lent1)?;
-        let mut two = Workspace::lend(alloc, self.lent2)?;
-        let mut lists = Lists::lend(alloc, self.lists)?;
-        let outcome = job(
-            self.tape,
-            &mut one.floats,
-            &mut one.table,
-            &mut two.floats,
-            &mut two.table,
-            &mut lists.first,
-            &mut lists.second,
-            &mut lists.distances,
-        );
+        let mut one = Workspace::lend(alloc, WORKSPACE)?;
+        let mut two = Workspace::lend(alloc, WORKSPACE)?;
+        let mut lists = Lists::lend(alloc, LISTS)?;
+        if self.answer(&mut one, &mut two, &mut lists) != self.outcome {
+            return Ok(false);
+        }
         let expected = self.sorted(alloc)?;
         let found = lists.sorted(alloc, expected.len())?;
-        Ok(
-            outcome.map_err(Refused::from) == self.outcome
-                && found == expected
-                && lists.kept(expected.len()),
-        )
+        Ok(found == expected && lists.kept(expected.len()))
     }
 }
 
-fn main(rt: HostRuntime) -> anyhow::Result<()> {
-    let Some(calls) = read_file(&rt, "calls")? else {
+fn main(rt: HostRuntime) -> io::Result<()> {
+    let Some(calls) = read_file(&rt, "calls", ROOM)? else {
         return Ok(());
     };
     let mut same = Vec::new(rt.alloc());

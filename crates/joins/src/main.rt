@@ -6,18 +6,26 @@ ghost use Rattle.std.specs.Prelude.{◌≤◌, ◌-◌, length};
 
 use joining::join;
 use records::{
-    Outcome, Reader, Record, RecordError, Records, Refused, Tally, holds, lend, outcome_of,
+    Outcome, Reader, Record, RecordError, Records, Refused, Tally, holds, lend, outcome_if_lent,
     read_file, report,
 };
 use std::alloc::{AllocError, Global};
+use std::io;
 
-// Two blobs, the length of the output that is lent, and what is expected: the size of the join, and what is written.
+// Room for a whole file.
+const ROOM: u64 = 1048576;
+
+// The output of which a call is lent the first bytes.
+const OUTPUT: usize = 1024;
+
+// Two blobs, the length of the output that is lent, and what is expected: the size of the join, and what is written. No
+// outcome: more is lent than there is.
 #[derive(Drop)]
 struct Call<'a> {
     a: &'a [u8],
     b: &'a [u8],
     lent: usize,
-    outcome: Outcome,
+    outcome: Option<Outcome>,
     written: &'a [u8],
 }
 
@@ -36,7 +44,7 @@ impl<'a> Record<'a> for Call<'a> {
             a,
             b,
             lent,
-            outcome: outcome_of(case, refused, size)?,
+            outcome: outcome_if_lent(case, refused, size)?,
             written,
         })
     }
@@ -45,14 +53,17 @@ impl<'a> Record<'a> for Call<'a> {
 impl Call<'_> {
     // Does the join answer, and leave the output, as expected?
     fn is_same(&self, alloc: Global) -> Result<bool, AllocError> {
-        let mut output: Vec<u8> = lend(alloc, self.lent)?;
-        let outcome = join(self.a, self.b, &mut output).map_err(Refused::from);
+        let mut output: Vec<u8> = lend(alloc, OUTPUT)?;
+        let outcome = match output.split_at_mut_checked(self.lent) {
+            Some((lent, _)) => Some(join(self.a, self.b, lent).map_err(Refused::from)),
+            None => None,
+        };
         Ok(outcome == self.outcome && holds(&output, self.written))
     }
 }
 
-fn main(rt: HostRuntime) -> anyhow::Result<()> {
-    let Some(calls) = read_file(&rt, "calls")? else {
+fn main(rt: HostRuntime) -> io::Result<()> {
+    let Some(calls) = read_file(&rt, "calls", ROOM)? else {
         return Ok(());
     };
     let mut same = Vec::new(rt.alloc());

@@ -1,9 +1,9 @@
 // The items of a side, listed once: how many, the box of all, and of few items each one with its box.
 #![tactic(auto)]
 
-ghost use Rattle.std.specs.Prelude.{◌≡◌, slice_set};
+ghost use Rattle.std.specs.Prelude.{◌≡◌, ◌≤◌, ◌<◌, length, slice_set};
 ghost use Rattle.items.specs.Items.{items_of};
-ghost use Rattle.listing.specs.Listing.{Lists};
+ghost use Rattle.listing.specs.Listing.{most_listed, Lists};
 ghost use Rattle.listing.specs.Inner.{union_with};
 
 use items::{Boxed, Items};
@@ -30,9 +30,11 @@ fn unite(all: Option<Aabb>, b: Aabb) -> Aabb
     }
 }
 
-// A row as the k-th, if there is room for it.
-fn store(rows: &mut [Boxed; 16], k: usize, row: Boxed)
-    ensures { rows.new ≡ slice_set rows.old k row }
+// A row as the k-th, if it is one of those that are listed.
+fn store(rows: &mut [Boxed], k: usize, row: Boxed)
+    requires { most_listed ≤ length rows.old }
+    ensures listed { k < most_listed → rows.new ≡ slice_set rows.old k row }
+    ensures others { most_listed ≤ k → rows.new ≡ rows.old }
 {
     if k < LISTED {
         rows[k] = row;
@@ -40,7 +42,8 @@ fn store(rows: &mut [Boxed; 16], k: usize, row: Boxed)
 }
 
 // All items of a side in order; if they are at most 16, each in a row.
-pub fn list_all(side: &Stored<'_>, rows: &mut [Boxed; 16]) -> Listing
+pub fn list_all(side: &Stored<'_>, rows: &mut [Boxed]) -> Listing
+    requires { most_listed ≤ length rows.old }
     ensures { Lists result (items_of side.now) rows.new }
 {
     let mut seen = Listing {

@@ -15,7 +15,7 @@ ghost use Rattle.measures.specs.Measures.{triangle_triangle};
 ghost use Rattle.measures.specs.InnerOffers.{offered_all, AllSettled, flipped_if, edge_witnesses};
 ghost use Rattle.measures.specs.InnerOffers.{first_two, vertex_witnesses, Spared};
 
-use extremes::{Best, Closest};
+use extremes::{BestSoFar, Closest};
 use primitives::{Point, UnrootedWitness};
 
 // Where the foot of the perpendicular from p lies on the segment, within 0..1.
@@ -192,7 +192,7 @@ fn turned(s: UnrootedWitness, flip: bool) -> UnrootedWitness
 
 // A point and the nearest of a triangle's edges, edge by edge; the first is kept where its distance is NaN.
 #[tactic(auto, using(crate::proofs::BestWitness::stands_distance, crate::proofs::NearestEdge::edges_leave, crate::proofs::NearestEdge::edges_offered, crate::proofs::NearestEdge::first_kept, crate::proofs::Literals::zero))]
-fn pt_edges(best: &mut Best<Closest>, p: Point, t: Triangle, flip: bool)
+fn pt_edges(best: &mut BestSoFar<Closest>, p: Point, t: Triangle, flip: bool)
     ensures { best.new ≡ taking shorter best.old (flipped_if flip (point_edges p t)) }
 {
     let Triangle { a, b, c } = t;
@@ -211,7 +211,7 @@ fn pt_edges(best: &mut Best<Closest>, p: Point, t: Triangle, flip: bool)
 
 // A point and a filled triangle: the foot where it lies inside, else the nearest edge.
 #[tactic(auto, using(crate::proofs::NearestEdge::foot_measured, crate::proofs::NearestEdge::edges_measured))]
-pub fn pt_tri(best: &mut Best<Closest>, p: Point, t: Triangle, flip: bool)
+pub fn pt_tri(best: &mut BestSoFar<Closest>, p: Point, t: Triangle, flip: bool)
     ensures { best.new ≡ taking shorter best.old (flipped_if flip (point_triangle p t)) }
 {
     match t.inner_foot(p) {
@@ -223,7 +223,7 @@ pub fn pt_tri(best: &mut Best<Closest>, p: Point, t: Triangle, flip: bool)
 // The segment p q against the edges of a triangle; a best of distance 0 stays. Where the edge b c was measured before,
 // it is spared.
 #[tactic(auto, using(crate::proofs::TwoTriangles::zero_edges, crate::proofs::BestWitness::stands_distance, crate::proofs::Settled::stays, crate::proofs::NotBelowZero::segment_segment_lem))]
-pub fn seg_edges(best: &mut Best<Closest>, p: Point, q: Point, t: Triangle, closes: bool)
+pub fn seg_edges(best: &mut BestSoFar<Closest>, p: Point, q: Point, t: Triangle, closes: bool)
     requires { closes ≡ true → taking shorter best.old (segment_segment p q t.b t.c) ≡ best.old }
     ensures { best.new ≡ offered_all best.old (edge_witnesses p q t) }
 {
@@ -252,7 +252,7 @@ pub fn seg_edges(best: &mut Best<Closest>, p: Point, q: Point, t: Triangle, clos
 
 // The first two vertices of a triangle against another, unless they were measured before.
 #[tactic(auto, unfolding(crate::specs::InnerOffers::AllSettled))]
-fn first_two(best: &mut Best<Closest>, t: Triangle, other: Triangle, flip: bool, again: bool)
+fn first_two(best: &mut BestSoFar<Closest>, t: Triangle, other: Triangle, flip: bool, again: bool)
     requires { again ≡ true → AllSettled best.old (first_two flip t other) }
     ensures { best.new ≡ offered_all best.old (first_two flip t other) }
 {
@@ -267,7 +267,7 @@ fn first_two(best: &mut Best<Closest>, t: Triangle, other: Triangle, flip: bool,
 // Each vertex of a triangle against another; a best of distance 0 stays. Where a and b were measured before, they are
 // spared, and so is c where it is a.
 #[tactic(auto, using(crate::proofs::TwoTriangles::zero_vertices, crate::proofs::Settled::again_later, crate::proofs::TwoTriangles::vertices_distant))]
-fn vertices(best: &mut Best<Closest>, t: Triangle, other: Triangle, flip: bool, again: bool)
+fn vertices(best: &mut BestSoFar<Closest>, t: Triangle, other: Triangle, flip: bool, again: bool)
     requires { again ≡ true → AllSettled best.old (first_two flip t other) }
     ensures { best.new ≡ offered_all best.old (vertex_witnesses flip t other) }
 {
@@ -304,7 +304,13 @@ impl Follows {
 }
 
 // The edge b c of t against the edges of u, unless t follows a measured triangle and ends a closed ring.
-fn middle_edge(best: &mut Best<Closest>, t: Triangle, u: Triangle, t_closes: bool, u_closes: bool)
+fn middle_edge(
+    best: &mut BestSoFar<Closest>,
+    t: Triangle,
+    u: Triangle,
+    t_closes: bool,
+    u_closes: bool,
+)
     requires t_closes { t_closes ≡ true → offered_all best.old (edge_witnesses t.b t.c u) ≡ best.old }
     requires u_closes { u_closes ≡ true → taking shorter best.old (segment_segment t.b t.c u.b u.c) ≡ best.old }
     ensures { best.new ≡ offered_all best.old (edge_witnesses t.b t.c u) }
@@ -318,7 +324,7 @@ fn middle_edge(best: &mut Best<Closest>, t: Triangle, u: Triangle, t_closes: boo
 
 // Two filled triangles: +infinity, each pair of edges, then the vertices of each against the other. What each shares
 // with the one before it in its fan is spared where it follows that one.
-pub fn tri_tri(best: &mut Best<Closest>, t: Triangle, u: Triangle, follows: Follows)
+pub fn tri_tri(best: &mut BestSoFar<Closest>, t: Triangle, u: Triangle, follows: Follows)
     requires { Spared t u follows best.old }
     ensures { best.new ≡ taking shorter best.old (triangle_triangle t u) }
 {

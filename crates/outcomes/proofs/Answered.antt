@@ -13,13 +13,8 @@ use Rattle.primitives.specs.declared.Witness.{Witness}
 use Rattle.operands.specs.Operands.{Workspaces, filled}
 use Rattle.outcomes.specs.Answers.{Value, Report, answering, refusing, answer_report}
 use Rattle.outcomes.specs.Operations.{Outcome, outcome, unless, distance_value, within_value, touching_value, blob_value}
-use Rattle.outcomes.specs.Inner.{memory_by, swept_of, pair_of, PairSwept, answer_of_swept, decided_report, swept_output}
+use Rattle.outcomes.specs.Inner.{memory_by, swept_of, pair_of, found_in, PairSwept, answer_of_swept, decided_report, swept_report, swept_output, HasRoom}
 use Rattle.outcomes.specs.declared.Swept.{Swept}
-
--- what is reported of a sweep, by the value of its pair
-abbrev pub swept_report : (Option Witness → Value) → Result (Option Swept) Refusal → Report
-swept_report value (Ok s) = answering (value (pair_of s))
-swept_report value (Err r) = refusing r
 
 -- the pair's distance, and what is decided of it, as the operations' values have it
 pub swept_measured : (r : Result (Option Swept) Refusal) → answer_report (answer_of_swept r) ≡ swept_report distance_value r
@@ -36,6 +31,11 @@ pub swept_touching : (r : Result (Option Swept) Refusal) → decided_report (λ 
 swept_touching (Err t) = refl
 swept_touching (Ok None) = refl
 swept_touching (Ok (Some s)) = refl
+
+-- a refusal asks no room
+pub room_of_found : {needed lent : ℕ} (r : Result (Option Swept) Refusal) → ((s : Option Swept) → r ≡ Ok s → HasRoom needed lent s) → HasRoom needed lent (found_in r)
+room_of_found (Ok s) enough = enough s refl
+room_of_found (Err t) enough = tt
 
 -- ---- the outcome
 
@@ -56,13 +56,17 @@ module _ {first : Option Refusal} {p : Option Witness} {a b : List ℕ} {w w' : 
       go (Some t) = refl
       go None = rw (pair_again (srid_of a) p)
 
-  -- the pair is written
-  pub written : (after : ℕ → Option Witness → List ℕ → List ℕ) → ((srid : ℕ) (l : List ℕ) → after srid None l ≡ l) → {s : Option Swept} → r ≡ Ok s → {v : Value} → v ≡ blob_value (pair_of s) → (lent : List ℕ) {output : List ℕ} → output ≡ swept_output after s lent
-      → outcome (answering v) w' output ≡ unless first (outcome (answering (blob_value p)) (filled a b w) (after (srid_of a) p lent)) w lent
-  written after kept {s} q says lent e =
-      let n = accepted_is first (swept_of (srid_of a) p) s (sym pair.answer ∙ q) in
-      rw (says, e, pair.memory, n.0, ← n.1) (go p)
+  -- the pair is written, if there is one
+  pub written : (after : ℕ → Option Witness → List ℕ → List ℕ) → ((srid : ℕ) (l : List ℕ) → after srid None l ≡ l) → {report : Report} → report ≡ swept_report blob_value r → (lent : List ℕ) {output : List ℕ} → output ≡ swept_output after (found_in r) lent
+      → outcome report w' output ≡ unless first (outcome (answering (blob_value p)) (filled a b w) (after (srid_of a) p lent)) w lent
+  written after kept says lent e = rw (says, e) (by_answer r refl)
     where
-      go : (p : Option Witness) → outcome (answering (blob_value (pair_of (swept_of (srid_of a) p)))) (filled a b w) (swept_output after (swept_of (srid_of a) p) lent) ≡ outcome (answering (blob_value p)) (filled a b w) (after (srid_of a) p lent)
-      go None = rw (kept (srid_of a) lent)
-      go (Some x) = refl
+      by_pair : (p : Option Witness) → outcome (answering (blob_value (pair_of (swept_of (srid_of a) p)))) (filled a b w) (swept_output after (swept_of (srid_of a) p) lent) ≡ outcome (answering (blob_value p)) (filled a b w) (after (srid_of a) p lent)
+      by_pair None = rw (kept (srid_of a) lent)
+      by_pair (Some x) = refl
+
+      by_answer : (x : Result (Option Swept) Refusal) → r ≡ x → outcome (swept_report blob_value x) w' (swept_output after (found_in x) lent) ≡ unless first (outcome (answering (blob_value p)) (filled a b w) (after (srid_of a) p lent)) w lent
+      by_answer (Err t) q = refused q _ lent
+      by_answer (Ok s) q =
+          let n = accepted_is first (swept_of (srid_of a) p) s (sym pair.answer ∙ q) in
+          rw (pair.memory, n.0, ← n.1) (by_pair p)

@@ -5,7 +5,7 @@ use Rattle.refusals.specs.declared.Refusal.{Refusal}
 use Rattle.gpb.specs.Header.{srid_of}
 use Rattle.primitives.specs.declared.Witness.{Witness}
 use Rattle.operands.specs.Operands.{Workspaces, filled}
-use Rattle.outcomes.specs.Answers.{decided, Report, answering, refusing}
+use Rattle.outcomes.specs.Answers.{Value, decided, Report, answering, refusing}
 use Rattle.outcomes.specs.declared.Answer.{Answer}
 use Rattle.outcomes.specs.declared.Answer.TheVariants as answer-case
 use Rattle.outcomes.specs.declared.Swept.{Swept}
@@ -23,6 +23,11 @@ swept_of srid pair = option_map (λ x. record { witness = x; srid = srid }) pair
 abbrev pub pair_of : Option Swept → Option Witness
 pair_of found = option_map (λ s. s.witness) found
 
+-- what a sweep found; a refused one found nothing
+abbrev pub found_in : Result (Option Swept) Refusal → Option Swept
+found_in (Ok found) = found
+found_in (Err r) = None
+
 -- a sweep of both blobs, where nothing is refused
 pub record PairSwept (first : Option Refusal) (pair : Option Witness) (a b : List ℕ) (w w' : Workspaces) (r : Result (Option Swept) Refusal) : Type 0 where
   pub answer : r ≡ refused_or first (swept_of (srid_of a) pair)
@@ -39,6 +44,11 @@ abbrev pub decided_report : (Float → Bool) → Answer → Report
 decided_report test (answer-case.Refused r) = refusing r
 decided_report test answer-case.Nothing = answering (decided false)
 decided_report test (answer-case.Measured d) = answering (decided (test d))
+
+-- what is reported of a sweep, by the value of its pair
+abbrev pub swept_report : (Option Witness → Value) → Result (Option Swept) Refusal → Report
+swept_report value (Ok s) = answering (value (pair_of s))
+swept_report value (Err r) = refusing r
 
 -- what is left in the output, by what is written of a pair
 abbrev pub swept_output : (ℕ → Option Witness → List ℕ → List ℕ) → Option Swept → List ℕ → List ℕ

@@ -7,9 +7,10 @@ ghost use Rattle.std.specs.Prelude.{◌≡◌, length};
 ghost use Rattle.std.specs.Float.Ieee.{le, eq};
 ghost use Rattle.ieee754.specs.MinMax.{positive_zero};
 ghost use Rattle.gpb.specs.Written.{point_bytes, line_bytes};
-ghost use Rattle.outcomes.specs.Answers.{decision_report, written_value};
+ghost use Rattle.outcomes.specs.Answers.{decision_report, written_report};
 ghost use Rattle.outcomes.specs.Operations.{blob_value, line_after, point_after};
-ghost use Rattle.outcomes.specs.Inner.{answer_of_swept, decided_report, pair_of, swept_of, swept_output, HasRoom};
+ghost use Rattle.outcomes.specs.Inner.{answer_of_swept, decided_report, found_in, swept_of, swept_output, swept_report};
+ghost use Rattle.outcomes.specs.Inner.{HasRoom};
 
 use primitives::Witness;
 use refusals::Refusal;
@@ -89,32 +90,28 @@ impl Answer {
 }
 
 // The line of the pair, from side 1's point to side 2's. `write_point` mirrors it: one function of both would take what
-// is written as a closure, with a clause of its own, for a match of two arms.
-pub fn write_line(pair: Option<Swept>, output: &mut [u8]) -> Written
-    requires { HasRoom line_bytes (length output.old) pair }
-    ensures told { written_value result ≡ blob_value (pair_of pair) }
-    ensures left { output.new ≡ swept_output line_after pair output.old }
+// is written as a closure, with a clause of its own, for the four lines of a body.
+pub fn write_line(pair: Result<Option<Swept>, Refusal>, output: &mut [u8]) -> WrittenBlob
+    requires { HasRoom line_bytes (length output.old) (found_in pair) }
+    ensures told { written_report result ≡ swept_report blob_value pair }
+    ensures left { output.new ≡ swept_output line_after (found_in pair) output.old }
 {
-    match pair {
-        None => Written::Nothing, // no pair: no line
-        Some(Swept { witness, srid }) => {
-            gpb::write_line(output, srid, witness.a, witness.b);
-            Written::Blob
-        }
-    }
+    let Some(Swept { witness, srid }) = pair? else {
+        return Ok(Written::Nothing); // no pair: no line
+    };
+    gpb::write_line(output, srid, witness.a, witness.b);
+    Ok(Written::Blob)
 }
 
 // Side 1's point of the pair.
-pub fn write_point(pair: Option<Swept>, output: &mut [u8]) -> Written
-    requires { HasRoom point_bytes (length output.old) pair }
-    ensures told { written_value result ≡ blob_value (pair_of pair) }
-    ensures left { output.new ≡ swept_output point_after pair output.old }
+pub fn write_point(pair: Result<Option<Swept>, Refusal>, output: &mut [u8]) -> WrittenBlob
+    requires { HasRoom point_bytes (length output.old) (found_in pair) }
+    ensures told { written_report result ≡ swept_report blob_value pair }
+    ensures left { output.new ≡ swept_output point_after (found_in pair) output.old }
 {
-    match pair {
-        None => Written::Nothing, // no pair: no point
-        Some(Swept { witness, srid }) => {
-            gpb::write_point(output, srid, witness.a);
-            Written::Blob
-        }
-    }
+    let Some(swept) = pair? else {
+        return Ok(Written::Nothing); // no pair: no point
+    };
+    gpb::write_point(output, swept.srid, swept.witness.a);
+    Ok(Written::Blob)
 }

@@ -1,6 +1,6 @@
 // The memory that a call is lent: what it holds before, and whether it holds what is expected afterwards.
 ghost use Rattle.std.specs.Prelude.{◌≡◌, ◌==◌, Bool, not, IfOk, length, drop, count_by, replicate};
-ghost use Rattle.records.specs.Lent.{first_or_mark, holds_of, same_float};
+ghost use Rattle.records.specs.Lent.{is_next, holds_of, same_float};
 ghost use Rattle.records.specs.declared.lent.TheConstants.{FLOAT_MARK, NUMBER_MARK};
 
 use crate::number::Number;
@@ -99,21 +99,24 @@ pub fn changed<T: Lent>(memory: &[T], from: usize) -> usize
     memory.iter().skip(from).filter(|x| !x.is(T::MARK)).count()
 }
 
-// The next number, or a mark where none is left.
-fn next_or_mark<T: Lent + Number>(held: &mut Reader) -> T
-    ensures value { result ≡ first_or_mark T.Lent.MARK T.SIZE T.value held.old }
+// Is it the next number, or a mark where none is left?
+fn is_next<T: Lent + Number>(x: T, held: &mut Reader) -> bool
+    ensures value { result ≡ is_next T.is T.is_at T.Lent.MARK T.SIZE x held.old }
     ensures rest { held.new ≡ drop T.SIZE held.old }
 {
-    held.number().unwrap_or(T::MARK)
+    match held.take(T::SIZE) {
+        Ok(bytes) => x.is_at(bytes),
+        Err(_) => x.is(T::MARK),
+    }
 }
 
 // Does memory begin with the numbers of these bytes, and keep its marks after them?
 pub fn holds<T: Lent + Number>(memory: &[T], held: &[u8]) -> bool
-    ensures { result ≡ holds_of T.is T.Lent.MARK T.SIZE T.value memory.now held.now }
+    ensures { result ≡ holds_of T.is T.is_at T.Lent.MARK T.SIZE memory.now held.now }
 {
     let mut left = Reader::new(held);
     for x in memory {
-        if !x.is(next_or_mark(&mut left)) {
+        if !is_next(*x, &mut left) {
             return false;
         }
     }

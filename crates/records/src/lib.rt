@@ -14,6 +14,6 @@ pub use file::read_file;
 pub use lent::{Lent, changed, holds, lend};
 pub use number::Number;
 pub use reader::{Reader, Record, RecordError, Records};
-pub use refused::{Outcome, Refused, outcome_of};
+pub use refused::{Outcome, Refused, outcome_if_lent, outcome_of};
 pub use tally::{Tally, report};
 pub use workspace::{Held, Workspace, WorkspaceSize};

@@ -1,5 +1,5 @@
 // A refusal in a record's numbers.
-ghost use Rattle.std.specs.Prelude.{◌≡◌, ◌-◌, ◌≤◌, ◌⊎◌, length, take, drop, true, IfOk, IfErr};
+ghost use Rattle.std.specs.Prelude.{◌≡◌, ◌-◌, ◌≤◌, ◌⊎◌, length, take, drop, true, None, Some, IfOk, IfErr};
 ghost use Rattle.fields.specs.Fields.{u32_at};
 ghost use Rattle.refusals.specs.Table.{number_of, number_of_side};
 
@@ -57,5 +57,26 @@ pub fn outcome_of(case: u32, refused: Refused, size: usize) -> Result<Outcome, R
         1 if refused == Refused::NONE => Ok(Ok(size)),
         2 if size == 0 => Ok(Err(refused)),
         _ => Err(RecordError::Unknown(case)),
+    }
+}
+
+// The outcome that a record's numbers tell, or none: 3 that the record lends more than there is, so that nothing is
+// called.
+pub fn outcome_if_lent(
+    case: u32,
+    refused: Refused,
+    size: usize,
+) -> Result<Option<Outcome>, RecordError>
+    ensures size { case ≡ 1 → refused ≡ Refused.NONE → result ≡ Ok (Some (Ok size)) }
+    ensures refusal { case ≡ 2 → size ≡ 0 → result ≡ Ok (Some (Err refused)) }
+    ensures not_lent { case ≡ 3 → refused ≡ Refused.NONE → size ≡ 0 → result ≡ Ok None }
+    ensures known { IfOk result (λ o. (case ≡ 1) × (refused ≡ Refused.NONE) × (o ≡ Some (Ok size))
+        ⊎ (case ≡ 2) × (size ≡ 0) × (o ≡ Some (Err refused))
+        ⊎ (case ≡ 3) × (refused ≡ Refused.NONE) × (size ≡ 0) × (o ≡ None)) }
+    ensures unknown { IfErr result (λ e. e ≡ RecordError.Unknown case) }
+{
+    match case {
+        3 if refused == Refused::NONE && size == 0 => Ok(None),
+        _ => Ok(Some(outcome_of(case, refused, size)?)),
     }
 }

@@ -1,5 +1,5 @@
 -- What a call comes to by the operations' definitions, and what its record expects of it. Definitions only.
-use Rattle.std.specs.Prelude.{ℕ, ◌≡◌, ◌&&◌, true, cond, List, [], Some, None, Result, Ok, Err}
+use Rattle.std.specs.Prelude.{ℕ, Bool, ◌≡◌, ◌&&◌, true, cond, if◌then◌else◌, nat_le, Float, List, [], ◌++◌, length, take, drop, Some, None, Result, Ok, Err}
 use Rattle.std.specs.Float.{binary64}
 use Rattle.std.specs.Float.Ieee.{of_bits, to_bits}
 use Rattle.refusals.specs.Table.{number_of, number_of_side}
@@ -16,6 +16,7 @@ use Rattle.outcomes.specs.Operations.{Outcome, distance, max_distance, within, f
 use Rattle.interpolation.specs.Operation.{line_interpolate_point}
 use Rattle.replay.specs.declared.reply.Reply.{Reply}
 use Rattle.replay.specs.declared.reply.Reply.TheVariants as reply
+use Rattle.records.specs.declared.refused.Refused.{Refused}
 use Rattle.records.specs.declared.workspace.WorkspaceSize.{WorkspaceSize}
 use Rattle.records.specs.declared.reader.RecordError.{RecordError}
 use Rattle.records.specs.Lent.{floats_hold, numbers_hold, bytes_hold, floats_lent, numbers_lent, bytes_lent}
@@ -24,6 +25,9 @@ use Rattle.replay.specs.declared.call.Operation.{Operation}
 use Rattle.replay.specs.declared.call.Operation.TheVariants as op
 
 -- ---- replies
+
+abbrev pub no_refusal : Refused
+no_refusal = record { number = 0; side = 0 }
 
 abbrev pub told_refusal : Reason → Side → Reply
 told_refusal reason side = reply.Refused (record { number = number_of reason; side = number_of_side side })
@@ -47,6 +51,14 @@ told_patch (Err (error.Refused r)) = told_refusal r.reason r.side
 abbrev pub told_sizes : Result Lent Refusal → Reply
 told_sizes (Ok l) = reply.Answered l.floats l.numbers
 told_sizes (Err r) = told_refusal r.reason r.side
+
+-- the numbers by which a record tells a reply, each 0 that says nothing: the case, the refusal, and two that are answered
+abbrev pub Tells : Reply → ℕ → Refused → ℕ → ℕ → Type 0
+Tells reply.Nothing case refusal first second = (case ≡ 0) × (refusal ≡ no_refusal) × (first ≡ 0) × (second ≡ 0)
+Tells (reply.Answered m n) case refusal first second = (case ≡ 1) × (refusal ≡ no_refusal) × (first ≡ m) × (second ≡ n)
+Tells (reply.Refused r) case refusal first second = (case ≡ 2) × (refusal ≡ r) × (first ≡ 0) × (second ≡ 0)
+Tells reply.NoSurface case refusal first second = (case ≡ 3) × (refusal ≡ no_refusal) × (first ≡ 0) × (second ≡ 0)
+Tells reply.Unknown case refusal first second = (case ≡ 4) × (refusal ≡ no_refusal) × (first ≡ 0) × (second ≡ 0)
 
 -- ---- calls
 
@@ -89,7 +101,38 @@ operated op.Sizes a b rule n w output = called (told_sizes (sizes_of a)) w outpu
 abbrev pub call_of : Operation → Call → Workspaces → List ℕ → Called
 call_of o c w output = operated o c.a.now c.b.now c.rule c.argument w output
 
--- the memory lent holds marks before the call
+-- whether there is so much of a workspace, and as much memory as a record lends
+abbrev pub fits_in : WorkspaceSize → List Float → List ℕ → Bool
+fits_in size floats table = nat_le size.floats (length floats) && nat_le size.numbers (length table)
+
+abbrev pub has_room : Call → Workspaces → List ℕ → Bool
+has_room c w output = fits_in c.lent1 w.floats1 w.table1 && fits_in c.lent2 w.floats2 w.table2 && nat_le c.lent_output (length output)
+
+-- what a record lends is the front of the memory that there is
+abbrev pub front : Call → Workspaces → Workspaces
+front c w = workspaces (take c.lent1.floats w.floats1) (take c.lent1.numbers w.table1) (take c.lent2.floats w.floats2) (take c.lent2.numbers w.table2)
+
+-- a call on the front leaves what lies behind it
+abbrev pub with_rest : Call → Workspaces → List ℕ → Called → Called
+with_rest c w output r =
+    called r.reply
+    (workspaces (r.memory.floats1 ++ drop c.lent1.floats w.floats1) (r.memory.table1 ++ drop c.lent1.numbers w.table1)
+    (r.memory.floats2 ++ drop c.lent2.floats w.floats2) (r.memory.table2 ++ drop c.lent2.numbers w.table2))
+    (r.output ++ drop c.lent_output output)
+
+-- a record's call, lent the front of this memory; nothing is called where no operation has its number, or it lends more than there is
+abbrev pub lending : Result Operation RecordError → Call → Workspaces → List ℕ → Called
+lending (Ok o) c w output = if has_room c w output then with_rest c w output (call_of o c (front c w) (take c.lent_output output)) else called reply.Unknown w output
+lending (Err e) c w output = called reply.Unknown w output
+
+-- the memory that there is: of each side so many floats and numbers, and so many bytes of output
+abbrev pub room : WorkspaceSize
+room = record { floats = 256; numbers = 64 }
+
+abbrev pub output_room : ℕ
+output_room = 128
+
+-- it holds marks before the call
 abbrev pub marked : WorkspaceSize → WorkspaceSize → Workspaces
 marked s t = workspaces (floats_lent s.floats) (numbers_lent s.numbers) (floats_lent t.floats) (numbers_lent t.numbers)
 
@@ -100,12 +143,15 @@ pub record Expects (c : Call) (expected : Reply) (r : Called) : Type 0 where
   pub second : (floats_hold r.memory.floats2 c.held2.floats.now && numbers_hold r.memory.table2 c.held2.table.now) ≡ true
   pub output : bytes_hold r.output c.output.now ≡ true
 
--- a record whose operation or reply is unknown is no call
-abbrev pub ExpectsBy : Result Operation RecordError → Result Reply RecordError → Call → Type 0
-ExpectsBy (Ok o) (Ok expected) c = Expects c expected (call_of o c (marked c.lent1 c.lent2) (bytes_lent c.lent_output))
-ExpectsBy (Ok o) (Err e) c = ⊥
-ExpectsBy (Err e) r c = ⊥
+-- where a patch is asked for, the patch of that number too, whatever the record lends
+abbrev pub ByCursor : Call → Reply → Type 0
+ByCursor c expected = c.operation ≡ Ok op.Patch → told_patch (patch_of c.a.now c.argument) ≡ expected
+
+-- a record that tells no reply expects nothing
+abbrev pub ExpectsBy : Result Reply RecordError → Call → Type 0
+ExpectsBy (Ok expected) c = Expects c expected (lending c.operation c (marked room room) (bytes_lent output_room)) × ByCursor c expected
+ExpectsBy (Err e) c = ⊥
 
 -- a record's call comes to what the record expects
 abbrev pub AsExpected : Call → Type 0
-AsExpected c = ExpectsBy c.operation c.reply c
+AsExpected c = ExpectsBy c.reply c

@@ -1,8 +1,7 @@
 // A recorded call, and what is expected of it.
 ghost use Rattle.std.specs.Prelude.{◌≡◌, ◌↔◌, ◌*◌, ◌-◌, ◌^◌, ◌≤◌, ◌<◌, true, IfOk, length};
 ghost use Rattle.outcomes.specs.Lent.{lent, left};
-ghost use Rattle.surface.specs.Patches.{patch_of};
-ghost use Rattle.replay.specs.Calls.{called, call_of, told_patch, Expects, AsExpected};
+ghost use Rattle.replay.specs.Calls.{called, call_of, fits_in, lending, Expects, ByCursor, AsExpected};
 
 use crate::patches::patch_by_cursor;
 use crate::reply::Reply;
@@ -139,22 +138,33 @@ impl<'a> Record<'a> for Call<'a> {
     }
 }
 
+// All the memory that there is, of each side and for the output. A record lends the front of it.
+const ROOM: WorkspaceSize = WorkspaceSize {
+    floats: 256,
+    numbers: 64,
+};
+
+const OUTPUT_ROOM: usize = 128;
+
+// Is there so much of a workspace?
+fn fits(size: WorkspaceSize, floats: &[f64], table: &[u32]) -> bool
+    ensures { result ≡ fits_in size floats.now table.now }
+{
+    size.floats <= floats.len() && size.numbers <= table.len()
+}
+
 impl Call<'_> {
-    // Does the library answer, and leave memory, as expected? Not where the operation or the reply is unknown.
+    // Does the library answer, and leave memory, as expected? Not where the record tells no reply.
     pub fn is_same(&self, alloc: Global) -> Result<bool, AllocError>
         ensures { IfOk result (λ same. same ≡ true ↔ AsExpected self.now) }
     {
-        let Ok(operation) = self.operation else {
-            return Ok(false);
-        };
         let Ok(expected) = self.reply else {
             return Ok(false);
         };
-        let mut one = Workspace::lend(alloc, self.lent1)?;
-        let mut two = Workspace::lend(alloc, self.lent2)?;
-        let mut output = lend(alloc, self.lent_output)?;
+        let mut one = Workspace::lend(alloc, ROOM)?;
+        let mut two = Workspace::lend(alloc, ROOM)?;
+        let mut output = lend(alloc, OUTPUT_ROOM)?;
         let is_answered = self.is_answered(
-            operation,
             expected,
             &mut one.floats,
             &mut one.table,
@@ -162,13 +172,12 @@ impl Call<'_> {
             &mut two.table,
             &mut output,
         );
-        Ok(is_answered && self.is_same_by_cursor(operation, expected))
+        Ok(is_answered && self.is_same_by_cursor(expected))
     }
 
-    // Does the library, lent this memory, answer and leave it as expected?
+    // Does the library, lent the front of this memory, answer and leave all of it as expected?
     fn is_answered(
         &self,
-        operation: Operation,
         expected: Reply,
         floats1: &mut [f64],
         table1: &mut [u32],
@@ -177,13 +186,42 @@ impl Call<'_> {
         output: &mut [u8],
     ) -> bool
         ensures { result ≡ true ↔ Expects self.now expected
-            (call_of operation self.now (lent floats1 table1 floats2 table2) output.old) }
+            (lending self.now.operation self.now (lent floats1 table1 floats2 table2) output.old) }
     {
-        let reply = self.reply_with(operation, floats1, table1, floats2, table2, output);
+        let reply = self.reply_by_front(floats1, table1, floats2, table2, output);
         reply == expected
             && self.held1.is_in(floats1, table1)
             && self.held2.is_in(floats2, table2)
             && holds(output, self.output)
+    }
+
+    // The library's reply, lent the front of this memory, as much of it as the record says.
+    fn reply_by_front(
+        &self,
+        floats1: &mut [f64],
+        table1: &mut [u32],
+        floats2: &mut [f64],
+        table2: &mut [u32],
+        output: &mut [u8],
+    ) -> Reply
+        ensures { called result (left floats1 table1 floats2 table2) output.new
+            ≡ lending self.now.operation self.now (lent floats1 table1 floats2 table2) output.old }
+    {
+        let (size1, size2, bytes) = (self.lent1, self.lent2, self.lent_output);
+        let has_room = fits(size1, floats1, table1)
+            && fits(size2, floats2, table2)
+            && bytes <= output.len();
+        match self.operation {
+            Ok(operation) if has_room => self.reply_with(
+                operation,
+                &mut floats1[..size1.floats],
+                &mut table1[..size1.numbers],
+                &mut floats2[..size2.floats],
+                &mut table2[..size2.numbers],
+                &mut output[..bytes],
+            ),
+            _ => Reply::Unknown,
+        }
     }
 
     // The library's reply, with these workspaces and this output.
@@ -235,11 +273,14 @@ impl Call<'_> {
     }
 
     // Does the cursor answer as expected, if a patch is asked for?
-    fn is_same_by_cursor(&self, operation: Operation, expected: Reply) -> bool
-        ensures { result ≡ true ↔ (operation ≡ Operation.Patch
-            → told_patch (patch_of self.now.a.now self.now.argument) ≡ expected) }
+    fn is_same_by_cursor(&self, expected: Reply) -> bool
+        ensures { result ≡ true ↔ ByCursor self.now expected }
     {
-        operation != Operation::Patch
-            || Reply::from(patch_by_cursor(self.a, self.argument)) == expected
+        match self.operation {
+            Ok(Operation::Patch) => {
+                Reply::from(patch_by_cursor(self.a, self.argument)) == expected
+            }
+            _ => true,
+        }
     }
 }

@@ -11,6 +11,7 @@ mod reply;
 use call::Call;
 use patches::compare;
 use records::{Records, Tally, read_file, report};
+use std::io;
 use std::rt::Files;
 
 const FILES: [&str; 13] = [
@@ -29,8 +30,11 @@ const FILES: [&str; 13] = [
     "rules",
 ];
 
-fn replay(rt: &(impl Files + Print + Eprint + AllocGlobal), name: &str) -> anyhow::Result<()> {
-    let Some(calls) = read_file(rt, name)? else {
+// Room for a whole file.
+const ROOM: u64 = 262144;
+
+fn replay(rt: &(impl Files + Print + Eprint + AllocGlobal), name: &str) -> io::Result<()> {
+    let Some(calls) = read_file(rt, name, ROOM)? else {
         return Ok(());
     };
     let mut same = Vec::new(rt.alloc());
@@ -51,7 +55,7 @@ fn replay(rt: &(impl Files + Print + Eprint + AllocGlobal), name: &str) -> anyho
     Ok(())
 }
 
-fn main(rt: HostRuntime) -> anyhow::Result<()> {
+fn main(rt: HostRuntime) -> io::Result<()> {
     for name in FILES {
         replay(&rt, name)?;
     }

@@ -1,8 +1,8 @@
 // What a call answers, whatever the operation.
-ghost use Rattle.std.specs.Prelude.{◌≡◌, IfErr};
+ghost use Rattle.std.specs.Prelude.{◌≡◌, IfOk, IfErr};
 ghost use Rattle.outcomes.specs.Answers.{answer_report, decision_report, written_report};
 ghost use Rattle.interpolation.specs.Operation.{interpolated_report};
-ghost use Rattle.replay.specs.Calls.{told, told_patch, told_sizes};
+ghost use Rattle.replay.specs.Calls.{told, told_patch, told_sizes, Tells};
 
 use blob::Lent;
 use ieee754::to_pattern;
@@ -11,7 +11,7 @@ use records::{RecordError, Refused};
 use refusals::Refusal;
 use surface::{Part, PatchError};
 
-// The four cases of a record. No operation has all of them, so this is none of the library's results.
+// The five cases of a record. No operation has all of them, so this is none of the library's results.
 #[derive(Clone, Copy, Debug, PartialEq, Eq)]
 pub enum Reply {
     // There is nothing, or no.
@@ -21,6 +21,8 @@ pub enum Reply {
     Answered(u64, u64),
     Refused(Refused),
     NoSurface,
+    // No operation has the record's number, or it lends more than there is: nothing is called.
+    Unknown,
 }
 
 impl Reply {
@@ -36,6 +38,9 @@ impl Reply {
         ensures refused { case ≡ 2 → first ≡ 0 → second ≡ 0 → result ≡ Ok (Reply.Refused refused) }
         ensures no_surface { case ≡ 3 → refused ≡ Refused.NONE → first ≡ 0 → second ≡ 0
             → result ≡ Ok Reply.NoSurface }
+        ensures unknown_call { case ≡ 4 → refused ≡ Refused.NONE → first ≡ 0 → second ≡ 0
+            → result ≡ Ok Reply.Unknown }
+        ensures known { IfOk result (λ reply. Tells reply case refused first second) }
         ensures unknown { IfErr result (λ e. e ≡ RecordError.Unknown case) }
     {
         let no_refusal = refused == Refused::NONE;
@@ -45,6 +50,7 @@ impl Reply {
             1 if no_refusal => Ok(Reply::Answered(first, second)),
             2 if no_answer => Ok(Reply::Refused(refused)),
             3 if no_refusal && no_answer => Ok(Reply::NoSurface),
+            4 if no_refusal && no_answer => Ok(Reply::Unknown),
             _ => Err(RecordError::Unknown(case)),
         }
     }

@@ -55,6 +55,15 @@ enum Case {
     NoSurface = 3,
 }
 
+// The numbers of two of them, for callers that read a reply.
+pub const ANSWERED: u32 = Case::Answered as u32;
+
+pub const NO_SURFACE: u32 = Case::NoSurface as u32;
+
+const _: () = prove!(ANSWERED == 1);
+
+const _: () = prove!(NO_SURFACE == 3);
+
 impl Reply {
     // There is no answer, or no is the answer.
     fn nothing() -> Reply
@@ -73,7 +82,7 @@ impl Reply {
         ensures { result ≡ reply_answered value }
     {
         Reply {
-            case: Case::Answered as u32,
+            case: ANSWERED,
             number: 0,
             side: 0,
             value,

@@ -7,7 +7,10 @@ ghost use Rattle.std.specs.Prelude.{◌≤◌, ◌-◌, length};
 
 use ieee754::{root, root_and_digits, to_pattern};
 use records::{Reader, Record, RecordError, Records, Tally, read_file};
-use std::{fmt, fs};
+use std::{fmt, fs, io};
+
+// Room for a whole file.
+const ROOM: u64 = 262144;
 
 // What there is of a number: the pattern of its root and the digits, and the pattern of the root that is taken alone.
 #[derive(Clone, Copy, PartialEq, Eq)]
@@ -65,8 +68,8 @@ impl<'a> Record<'a> for Expected {
     }
 }
 
-fn main(rt: HostRuntime) -> anyhow::Result<()> {
-    let Some(numbers) = read_file(&rt, "numbers")? else {
+fn main(rt: HostRuntime) -> io::Result<()> {
+    let Some(numbers) = read_file(&rt, "numbers", ROOM)? else {
         return Ok(());
     };
     let mut same = Vec::new(rt.alloc());

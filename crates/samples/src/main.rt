@@ -13,7 +13,10 @@ use std::alloc::{AllocError, Global};
 use std::{fs, io};
 use workspace::{FLOATS_PER_COORDINATE, NUMBERS_PER_RUN};
 
-// More workspace than any sample needs.
+// Room for a whole file.
+const ROOM: u64 = 262144;
+
+// More workspace than a sample is to need.
 const AMPLE: WorkspaceSize = WorkspaceSize {
     floats: 192,
     numbers: 32,
@@ -104,12 +107,15 @@ fn print_read(rt: &(impl Print + AllocGlobal), blob: &[u8]) -> io::Result<()> {
     }
 }
 
-// Whether a read with just this much workspace is accepted.
+// Whether a read with just this much workspace is accepted. Nothing, where that is more than there is.
 fn print_outcome(
     rt: &(impl Print + AllocGlobal),
     blob: &[u8],
     size: WorkspaceSize,
 ) -> io::Result<()> {
+    if size.floats > AMPLE.floats || size.numbers > AMPLE.numbers {
+        return Ok(());
+    }
     let reading = Reading::of(rt.alloc(), blob, size)?;
     match reading.found {
         Ok(_) => print!(rt; "read")?,
@@ -139,8 +145,8 @@ fn print_by_sizes(rt: &(impl Print + AllocGlobal), blob: &[u8]) -> io::Result<()
     Ok(())
 }
 
-fn main(rt: HostRuntime) -> anyhow::Result<()> {
-    let Some(blobs) = read_file(&rt, "blobs")? else {
+fn main(rt: HostRuntime) -> io::Result<()> {
+    let Some(blobs) = read_file(&rt, "blobs", ROOM)? else {
         return Ok(());
     };
     for (number, sample) in Records::<Sample>::new(&blobs).enumerate() {

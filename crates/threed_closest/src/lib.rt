@@ -26,7 +26,9 @@ use refusals::Refusal;
 fn sweep(rule: u32, a: &Stored<'_>, b: &Stored<'_>, stop_at_zero: bool) -> Option<Witness>
     ensures { result ≡ closest_by_rule rule (items_of a.now) (items_of b.now) }
 {
-    if rule == 2 && closest_rule2::any_face(a, b) {
+    let (table1, _) = a.runs().slices();
+    let (table2, _) = b.runs().slices();
+    if rule == 2 && closest_rule2::any_face(table1, table2) {
         return closest_rule2::closest(a, b, stop_at_zero);
     }
     closest::closest(a, b, stop_at_zero)
@@ -139,8 +141,8 @@ pub fn st_3d_closest_point(
         needed: POINT_BYTES,
     };
     let question = Question { asked, rule };
-    let pair = closest_pair(a, b, question, floats1, table1, floats2, table2, false)?;
-    Ok(outcomes::write_point(pair, output))
+    let pair = closest_pair(a, b, question, floats1, table1, floats2, table2, false);
+    outcomes::write_point(pair, output)
 }
 
 // The line between the closest pair, from side 1's point to side 2's.
@@ -165,6 +167,6 @@ pub fn st_3d_shortest_line(
         needed: LINE_BYTES,
     };
     let question = Question { asked, rule };
-    let pair = closest_pair(a, b, question, floats1, table1, floats2, table2, false)?;
-    Ok(outcomes::write_line(pair, output))
+    let pair = closest_pair(a, b, question, floats1, table1, floats2, table2, false);
+    outcomes::write_line(pair, output)
 }

@@ -1,5 +1,5 @@
--- `cut` meets its contract. The loop's invariant: the blocks so far and the items that are left are all, and each block
--- has room for more than one item. Assumes nothing.
+-- `cut` meets its contract. The loop's invariant: the blocks so far and the items that are left are all, and the
+-- blocks are of one size, for more than one item. Assumes nothing.
 use mathlib.Core.Path.{◌≡◌}
 use mathlib.Core.List.{◌++◌}
 use Prim.Native.Nat.{ℕ, ◌*◌, ◌<◌}
@@ -15,5 +15,6 @@ abbrev pub invariant-loop-row : goal.invariant-loop-row
 invariant-loop-row l = record {
   all : flat_map block_items (take l.row-index l.row-items) ++ items_left l.items ≡ items_of l.side;
   lt_size : (k : ℕ) (d : Block) → k < l.row-index → 1 < (get_or l.row-items k d).size;
+  same_size : (k : ℕ) (d : Block) → k < l.row-index → (get_or l.row-items k d).size ≡ l.size;
   left : items_left l.items ≡ drop (l.row-index * l.size) (items_of l.side);
 }

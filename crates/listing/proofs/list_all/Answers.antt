@@ -9,6 +9,6 @@ loop-item-init c = record { lists = lists_none _; all = cc }
 
 pub loop-item-preserved : goal.loop-item-preserved
 loop-item-preserved c = record {
-  lists = lists_more _ _ _ _ _ _ _ c.loop-item.invariant.lists c.new-row.ensures c.unite.ensures c.store.ensures c.store.array_long;
+  lists = lists_more _ _ _ _ _ _ _ c.loop-item.invariant.lists c.new-row.ensures c.unite.ensures c.store.ensures.listed (omega arith);
   all = grind (arith, common_steps);
 }

@@ -1,7 +1,7 @@
--- `extremes::Best::none` meets its contract. Assumes nothing.
+-- `extremes::BestSoFar::none` meets its contract. Assumes nothing.
 use mathlib.Core.Path.{refl}
 use lib.Ieee.{of_bits, neg, lt, fits}
-use Rattle.extremes.proofs.Best.none.Goals as goal
+use Rattle.extremes.proofs.BestSoFar.none.Goals as goal
 
 pub invariant_of-result : goal.invariant_of-result
 unfolding of_bits neg lt fits
