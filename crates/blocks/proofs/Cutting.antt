@@ -1,21 +1,16 @@
 -- One more block: what the blocks so far and the items that are left come to. Assumes nothing.
 use mathlib.Core.Path.{◌≡◌, ap, ◌∙◌}
 use mathlib.Core.List.{List, [], ◌∷◌, ◌++◌}
-use Prim.Native.Nat.{ℕ, ◌+◌, ◌*◌, ◌<◌}
-use native.Mathlib.Omega.{arith}
+use Prim.Native.Nat.{ℕ, ◌+◌, ◌<◌}
 use lib.ListN.{length, take, drop, set}
-use Rattle.std.specs.List.{flat_map}
-use Rattle.std.proofs.lemmas.List.{take_more_set, append_assoc, append-nil, take-append-drop, drop-drop}
+use Rattle.std.specs.List.{All, flat_map}
+use Rattle.std.proofs.lemmas.List.{take_more_set, append_assoc, append-nil, take-append-drop}
 use Rattle.std.proofs.lemmas.List.Concat.{flat_map-cons}
+use Rattle.std.proofs.lemmas.List.Elements.{All-push}
 use Rattle.std.proofs.lemmas.Grind.{flat_map-append}
 use Rattle.items.specs.declared.Item.{Item}
 use Rattle.blocks.specs.declared.block.Block.{Block}
 use Rattle.blocks.specs.Blocks.{block_items}
-
-pub items_more : (i size : ℕ) (left next all : List Item) → next ≡ drop size left → left ≡ drop (i * size) all → next ≡ drop ((i + 1) * size) all
-items_more i size left next all rest e =
-    let n : i * size + size ≡ (i + 1) * size = omega arith in
-    rest ∙ ap (drop size) e ∙ drop-drop size (i * size) all ∙ ap (λ (k : ℕ). drop k all) n
 
 pub blocks_more : (rows : List Block) (i : ℕ) (b : Block) (size : ℕ) (left next all : List Item) → i < length rows → next ≡ drop size left
     → flat_map block_items (take i rows) ++ left ≡ all → block_items b ≡ take size left → flat_map block_items (take (i + 1) (set rows i b)) ++ next ≡ all
@@ -26,3 +21,7 @@ blocks_more rows i b size left next all h rest e f =
     ∙ ap (λ (l : List Item). before ++ l) (flat_map-cons block_items b [] ∙ append-nil (block_items b) ∙ f) in
     ap (λ (l : List Item). l ++ next) t ∙ append_assoc before (take size left) next
     ∙ ap (λ (l : List Item). before ++ l) (ap (λ (l : List Item). take size left ++ l) rest ∙ take-append-drop size left) ∙ e
+
+pub sizes_more : (rows : List Block) (i : ℕ) (b : Block) (size : ℕ) → i < length rows → All (λ b. b.size ≡ size) (take i rows) → b.size ≡ size
+    → All (λ b. b.size ≡ size) (take (i + 1) (set rows i b))
+sizes_more rows i b size h all e = rw (take_more_set rows i b h) (All-push (λ (b : Block). b.size ≡ size) (take i rows) b all e)

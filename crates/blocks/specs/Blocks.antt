@@ -4,9 +4,13 @@ use Rattle.items.specs.declared.Item.{Item}
 use Rattle.items.specs.Inner.{items_left}
 use Rattle.blocks.specs.declared.block.Block.{Block}
 
--- there is room for so many blocks
+-- so many full blocks hold more than all items of a side
+abbrev pub most_full : ℕ
+most_full = 128
+
+-- there is room for so many blocks: each class but the last may end with one that is not full
 abbrev pub most_rows : ℕ
-most_rows = 128
+most_rows = 130
 
 -- the items of a block: the next so many, or all that are left
 abbrev pub block_items : Block → List Item

@@ -11,8 +11,8 @@ use crate::cover::{cover, empty_cover};
 use items::Items;
 use primitives::Aabb;
 
-// The next so many items, or all that are left, and how many these are: a walk that asked for one more would look for it
-// through all runs.
+// The next so many items, or all that are left, and how many these are: a walk that asked for one more would look for
+// it through all runs.
 #[derive(Clone, Copy)]
 pub struct Block<'a> {
     pub bounds: Aabb,

@@ -1,10 +1,10 @@
 // The closest sweep: the items of A in order, each with the items of B in order, points before segments before
 // triangles; what is skipped and when it ends is told in `against`. Where A is one point (`from_one_point`) each item
 // of B is looked at once, so no box of it is kept, and one point with one point needs no box at all. Else B has an
-// index, made once: of its items where there are at most 16 (`listing`), of blocks where there are more (`sweep_many`).
+// index, made once: of its items where there are at most 16 (`listing`), of blocks where there are more (`sweep_blocks`).
 #![tactic(auto)]
 
-ghost use Rattle.std.specs.Prelude.{◌≡◌, ◌⊎◌, None, [], ◌∷◌, ◌*◌, ◌≤◌, length, IfSome};
+ghost use Rattle.std.specs.Prelude.{◌≡◌, ◌⊎◌, None, [], ◌∷◌, ◌+◌, ◌*◌, ◌≤◌, length, IfSome};
 ghost use Rattle.items.specs.Items.{items_of};
 ghost use Rattle.items.specs.declared.Item.TheVariants.{Point as point};
 ghost use Rattle.items.specs.Closest.{with_each, sweep_of, closest_of};
@@ -57,7 +57,7 @@ fn sweep_blocks<'b>(
     rows: &mut [Block<'b>],
 ) -> BestSoFar<Closest>
     requires count { count ≡ length (items_of b.now) }
-    requires room { (most_rows ≤ length rows.old) ⊎ (count ≤ 8 * length rows.old) }
+    requires room { (most_rows ≤ length rows.old) ⊎ (count + 16 ≤ 8 * length rows.old) }
     ensures { result ≡ sweep_of all (items_of b.now) None (items_of a.now) }
 {
     let cut = blocks::cut(count, b, rows);
@@ -65,7 +65,26 @@ fn sweep_blocks<'b>(
     sweep_all(&Target { index, all, stop }, a)
 }
 
-// The same, with rows enough. To fill 128 of them takes longer than to sweep a few items, which need no more than 16.
+// The same where B has at most 128 items, which need no more rows than 18. A function of its own, as is the one for
+// more: what a function keeps is filled when it begins, whatever it does then.
+#[inline(never)]
+fn sweep_some(
+    stop: bool,
+    count: usize,
+    all: Aabb,
+    a: &Stored<'_>,
+    b: &Stored<'_>,
+) -> BestSoFar<Closest>
+    requires few { count ≤ 128 }
+    requires count { count ≡ length (items_of b.now) }
+    ensures { result ≡ sweep_of all (items_of b.now) None (items_of a.now) }
+{
+    let mut rows = [Block::none(Items::of(b)); 18];
+    sweep_blocks(stop, count, all, a, b, &mut rows)
+}
+
+// The same with rows enough for any number.
+#[inline(never)]
 fn sweep_many(
     stop: bool,
     count: usize,
@@ -76,12 +95,7 @@ fn sweep_many(
     requires { count ≡ length (items_of b.now) }
     ensures { result ≡ sweep_of all (items_of b.now) None (items_of a.now) }
 {
-    let none = Block::none(Items::of(b));
-    if count <= 128 {
-        let mut rows = [none; 16];
-        return sweep_blocks(stop, count, all, a, b, &mut rows);
-    }
-    let mut rows = [none; 128];
+    let mut rows = [Block::none(Items::of(b)); 130];
     sweep_blocks(stop, count, all, a, b, &mut rows)
 }
 
@@ -96,10 +110,14 @@ fn from_all(stop: bool, a: &Stored<'_>, b: &Stored<'_>) -> BestSoFar<Closest>
     match list.all {
         None => BestSoFar::none(),
         Some(all) => {
-            if LISTED < list.count {
-                return sweep_many(stop, list.count, all, a, b);
+            let count = list.count;
+            if LISTED < count {
+                if count <= 128 {
+                    return sweep_some(stop, count, all, a, b);
+                }
+                return sweep_many(stop, count, all, a, b);
             }
-            let index = Index::Listed(&rows[..list.count]);
+            let index = Index::Listed(&rows[..count]);
             sweep_all(&Target { index, all, stop }, a)
         }
     }

@@ -4,7 +4,8 @@ use mathlib.Core.Bool.{true, false}
 use mathlib.Core.List.{List, [], ◌∷◌, ◌++◌}
 use Prim.Native.Nat.{ℕ, suc, ◌+◌}
 use native.Mathlib.Omega.{arith}
-use lib.ListN.{take}
+use lib.ListN.{take, length, length-append}
+use Rattle.std.proofs.lemmas.List.{append-nil, append_assoc}
 use Rattle.std.specs.Prelude.{Some, None, slice_get}
 use Rattle.coords.specs.Parts.{Run, run, segments_by}
 use Rattle.primitives.specs.declared.Point.{Point}
@@ -92,6 +93,23 @@ pub all_left : (rs ls fs : List (Run Point)) → class_items Lines ls ≡ class_
     → class_items Points rs ++ later_class_items Points ls fs ≡ items_of rs
 unfolding items_of later_class_items is_of
 all_left rs ls fs e f = rw (e, f) refl
+
+-- all its items, class after class
+pub classes_on : (rs : List (Run Point)) (points lines faces : List Item) → points ≡ class_items Points rs → lines ≡ points ++ class_items Lines rs
+    → faces ≡ lines ++ class_items Faces rs → faces ≡ items_of rs
+unfolding items_of is_of
+classes_on rs points lines faces e f g = rw (g, f, e) (append_assoc (class_items Points rs) (class_items Lines rs) (class_items Faces rs))
+
+pub class_counts : (rs : List (Run Point)) → length (class_items Points rs) + (length (class_items Lines rs) + length (class_items Faces rs)) ≡ length (items_of rs)
+unfolding items_of is_of
+class_counts rs = simp length-append
+
+-- of a class of it: no runs for the classes after
+pub class_left : (class : Class) (is : List Item) (ls fs : List (Run Point)) → ls ≡ [] → fs ≡ [] → is ++ later_class_items class ls fs ≡ is
+unfolding later_class_items items_of_kind
+class_left Points is ls fs e f = rw (e, f) (append-nil is)
+class_left Lines is ls fs e f = rw f (append-nil is)
+class_left Faces is ls fs e f = append-nil is
 
 -- ---- of so many
 

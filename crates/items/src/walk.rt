@@ -32,7 +32,7 @@ struct ClassItems<'a> {
 }
 
 impl<'a> ClassItems<'a> {
-    ghost use Rattle.std.specs.Prelude.{false};
+    ghost use Rattle.std.specs.Prelude.{true, false};
     ghost use Rattle.items.specs.Inner.{class_items, run_left, runs_left, later_run_items, class_items_left};
 
     // Those of all runs.
@@ -107,7 +107,8 @@ impl<'a> ClassItems<'a> {
     // Whether the run has an item left.
     #[inline(always)]
     fn run_has_next(&self) -> bool
-        ensures { result ≡ false → run_left self.now ≡ [] }
+        ensures none { result ≡ false → run_left self.now ≡ [] }
+        ensures some { result ≡ true → 0 < length (run_left self.now) }
     {
         let mut ahead = *self;
         ahead.next_of_run().is_some()
@@ -118,6 +119,7 @@ impl<'a> ClassItems<'a> {
     fn reach_next(&mut self) -> bool
         ensures left { class_items_left self.new ≡ class_items_left self.old }
         ensures none { result ≡ false → class_items_left self.new ≡ [] }
+        ensures some { result ≡ true → 0 < length (class_items_left self.new) }
         ensures class { self.new.class ≡ self.old.class }
     {
         while !self.run_has_next() {
@@ -162,6 +164,17 @@ struct LaterRuns<'a> {
 impl<'a> LaterRuns<'a> {
     ghost use Rattle.items.specs.Inner.{class_items, runs_from};
 
+    // No runs.
+    #[tactic(auto, unfolding(parts::specs::Stored::stored_runs, parts::specs::Stored::point_count, parts::specs::Stored::Laid))]
+    fn none() -> LaterRuns<'a>
+        ensures { runs_from result ≡ [] }
+    {
+        LaterRuns {
+            table: &[],
+            floats: &[],
+        }
+    }
+
     // Those of a side: what is before the first is passed over here once, and not by each walk that comes to the class.
     #[tactic(auto, using(crate::proofs::Left::class_turns))]
     fn of(class: Class, side: &Stored<'a>) -> LaterRuns<'a>
@@ -193,7 +206,8 @@ pub struct Items<'a> {
 }
 
 impl<'a> Items<'a> {
-    ghost use Rattle.items.specs.Inner.{items_left};
+    ghost use Rattle.std.specs.Prelude.{true, false};
+    ghost use Rattle.items.specs.Inner.{class_items, items_left};
 
     // Those of a side.
     #[tactic(auto, using(crate::proofs::Left::all_left, crate::proofs::Counts::items_counted), unfolding(crate::specs::Inner::items_left))]
@@ -209,19 +223,36 @@ impl<'a> Items<'a> {
         }
     }
 
-    // Goes on to the run that has the next item, so that a walk that is taken up there need not look for it again.
+    // Those of a class of a side.
+    #[tactic(auto, using(crate::proofs::Left::class_left), unfolding(crate::specs::Inner::items_left))]
+    pub fn of_class(class: Class, side: &Stored<'a>) -> Items<'a>
+        ensures { items_left result ≡ class_items class side.now }
+    {
+        let runs = LaterRuns::of(class, side);
+        Items {
+            left: ClassItems::of(class, runs.table, runs.floats),
+            lines: LaterRuns::none(),
+            faces: LaterRuns::none(),
+        }
+    }
+
+    // Goes on to the run that has the next item, so that a walk that is taken up there need not look for it again;
+    // whether there is one.
     #[tactic(auto, unfolding(crate::specs::Inner::items_left, crate::specs::Inner::later_class_items))]
-    pub fn reach_next(&mut self)
-        ensures { items_left self.new ≡ items_left self.old }
+    pub fn reach_next(&mut self) -> bool
+        ensures left { items_left self.new ≡ items_left self.old }
+        ensures none { result ≡ false → items_left self.new ≡ [] }
+        ensures some { result ≡ true → 0 < length (items_left self.new) }
     {
         while !self.left.reach_next() {
             let (lines, faces) = (self.lines, self.faces);
             self.left = match self.left.class {
                 Class::Points => ClassItems::of(Class::Lines, lines.table, lines.floats),
                 Class::Lines => ClassItems::of(Class::Faces, faces.table, faces.floats),
-                Class::Faces => return,
+                Class::Faces => return false,
             };
         }
+        true
     }
 }
 

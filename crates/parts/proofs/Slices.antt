@@ -1,9 +1,9 @@
 -- What a walk by slices takes off the floats and off the table. Assumes nothing.
 use mathlib.Core.Path.{◌≡◌, refl}
 use mathlib.Core.List.{List, [], ◌∷◌}
-use Prim.Native.Nat.{ℕ, ◌-◌, ◌*◌, ◌/◌, ◌<◌, ◌≤◌}
+use Prim.Native.Nat.{ℕ, ◌+◌, ◌-◌, ◌*◌, ◌/◌, ◌<◌, ◌≤◌}
 use native.Mathlib.Omega.{arith}
-use lib.ListN.{length, take, drop, get_or, length-drop}
+use lib.ListN.{length, take, drop, get_or}
 use lib.Seq.{take_all}
 use lib.Ieee.{Float, nan}
 use Rattle.workspace.specs.Workspace.{floats_per_coordinate, numbers_per_run}
@@ -90,11 +90,12 @@ run_fits [] floats l h = absurd (omega arith)
 run_fits (kind ∷ []) floats l h = absurd (omega arith)
 run_fits (kind ∷ count ∷ table) floats l h = omega (arith, l)
 
--- and the others'
-pub laid_more : (table : List ℕ) (floats : List Float) → Laid table floats → numbers_per_run ≤ length table → Laid (take (length table - numbers_per_run) (drop numbers_per_run table)) (drop (floats_per_coordinate * get_or table 1 0) floats)
+-- and the others', in floats that are short of the first run's at most
+pub laid_more : (table : List ℕ) (floats others : List Float) → Laid table floats → numbers_per_run ≤ length table → length floats ≤ length others + floats_per_coordinate * get_or table 1 0
+    → Laid (take (length table - numbers_per_run) (drop numbers_per_run table)) others
 unfolding Laid point_count
-laid_more [] floats l h = absurd (omega arith)
-laid_more (kind ∷ []) floats l h = absurd (omega arith)
-laid_more (kind ∷ count ∷ table) floats l h = rw (take_all (length (kind ∷ count ∷ table) - numbers_per_run) table (omega arith)) (omega (arith, l, length-drop (floats_per_coordinate * count) floats))
+laid_more [] floats others l h e = absurd (omega arith)
+laid_more (kind ∷ []) floats others l h e = absurd (omega arith)
+laid_more (kind ∷ count ∷ table) floats others l h e = rw (take_all (length (kind ∷ count ∷ table) - numbers_per_run) table (omega arith)) (omega (arith, l, e))
 
 pub ruleset run_turns = (runs_short, runs_more, run_fits, laid_more)

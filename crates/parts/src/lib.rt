@@ -7,6 +7,7 @@ ghost use Rattle.coords.specs.Parts.{run};
 ghost use Rattle.parts.specs.Stored.{stored_runs, Laid};
 ghost use Rattle.parts.specs.Slices.{points_in, segments_in};
 ghost use Rattle.parts.specs.Classes.{is_of};
+ghost use Rattle.parts.specs.Stretches.{is_with, points_while, runs_after};
 
 use primitives::Point;
 use std::marker::Model;
@@ -205,6 +206,31 @@ impl<'a> Runs<'a> {
         ensures laid { Laid result.0.now result.1.now }
     {
         (self.table, self.floats)
+    }
+
+    // The points of the runs that come next, as long as they are of the class and have so many points at least. Their
+    // floats follow each other, and so they are taken at once.
+    #[tactic(auto, using(crate::proofs::Stretches::stretch_turns))]
+    pub fn next_points(&mut self, class: Class, least: usize) -> Points<'a>
+        ensures points { result ≡ points_while (is_with class least) self.old }
+        ensures runs { self.new ≡ runs_after (is_with class least) self.old }
+    {
+        let mut table = self.table;
+        let mut count = 0; // of points
+        while let [kind, n, others @ ..] = table {
+            if !class.holds(*kind) {
+                break;
+            }
+            if (*n as usize) < least {
+                break;
+            }
+            count += *n as usize;
+            table = others;
+        }
+        let (points, after) = self.floats.split_at(FLOATS_PER_COORDINATE * count);
+        self.table = table;
+        self.floats = after;
+        Points::of(points)
     }
 }
 

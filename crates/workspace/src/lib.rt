@@ -64,6 +64,7 @@ fn put_coordinate(s: &[u8], h: WkbHeader, at: usize, floats: &mut [f64], i: usiz
 
 // n coordinates from a position on, as the i-th and on. By index: of a loop over `chunks_exact_mut` the library does
 // not say what it leaves in the slice, and one that splits off the rest forgets what it wrote in the turns before.
+#[inline(always)]
 #[tactic(auto, using(crate::proofs::Laws::rows))]
 fn put_coordinates(s: &[u8], h: WkbHeader, n: usize, at: usize, floats: &mut [f64], i: usize)
     requires h_in_bounds { at + n * stride h ≤ length s.now }
@@ -78,7 +79,9 @@ fn put_coordinates(s: &[u8], h: WkbHeader, n: usize, at: usize, floats: &mut [f6
 }
 
 // A run of n coordinates. Floats and table stay two parameters: a struct of both, lent on, is built anew in each turn
-// of a loop.
+// of a loop. In line, as the coordinates above, since a multipoint has a run for each point: then neither a call nor a
+// loop stands beside its one coordinate.
+#[inline(always)]
 #[tactic(auto, using(crate::proofs::Runs::fills_run))]
 fn fill_run(
     s: &[u8],

@@ -1,26 +1,29 @@
--- `cut` meets its contract: there is room for the blocks. Assumes nothing.
-use mathlib.Core.Path.{sym}
-use lib.ListN.{length}
-use Rattle.std.proofs.Common.{rules}
-use Rattle.std.proofs.lemmas.List.{length-take-le}
+-- `cut` meets its contract: there is room for the blocks of each class. Assumes nothing.
+use mathlib.Core.Path.{refl}
 use native.Mathlib.Omega.{arith}
-use Rattle.blocks.proofs.Cutting.{blocks_more, items_more}
-use Rattle.blocks.proofs.Room.{room}
+use Prim.Native.Nat.{◌≤◌}
+use lib.ListN.{length}
+use Rattle.items.proofs.Left.{classes_on, class_counts}
+use Rattle.blocks.specs.Blocks.{most_rows}
+use Rattle.blocks.proofs.Room.{room, few_blocks}
 use Rattle.blocks.proofs.cut.Goals as goal
 
-pub slice_bounds-row-items-end : goal.slice_bounds-row-items-end
-slice_bounds-row-items-end c = rw c.div_ceil-count.ensures (room c.args.total (length c.args.rows.now) c.requires.room)
+pub cut_class-points-requires-clause-room : goal.cut_class-points-requires-clause-room
+cut_class-points-requires-clause-room c = omega (arith, room c.args.total _ refl (length c.args.rows.now) c.requires.room, class_counts c.args.side.now)
 
-pub slice_bounds-row-items-end-2 : goal.slice_bounds-row-items-end-2
-slice_bounds-row-items-end-2 c = sym (length-take-le _ _ (rw c.div_ceil-count.ensures (room c.args.total (length c.args.rows.now) c.requires.room)))
+pub cut_class-lines-requires-clause-room : goal.cut_class-lines-requires-clause-room
+cut_class-lines-requires-clause-room c =
+    rw c.cut_class-points.auto.rows (omega (arith, room c.args.total _ refl (length c.args.rows.now) c.requires.room, class_counts c.args.side.now))
 
-pub loop-row-preserved : goal.loop-row-preserved
-loop-row-preserved c = record {
-  all = blocks_more c.loop-row.row-items c.loop-row.row-index _ _ _ _ _ (omega arith) c.next_of.ensures.left c.loop-row.invariant.all c.next_of.ensures.items;
-  lt_size = search rules;
-  same_size = search rules;
-  left = items_more _ _ _ _ _ c.next_of.ensures.left c.loop-row.invariant.left;
-}
+pub cut_class-requires-clause-room : goal.cut_class-requires-clause-room
+cut_class-requires-clause-room c =
+    rw (c.cut_class-lines.auto.rows, c.cut_class-points.auto.rows)
+    (omega (arith, room c.args.total _ refl (length c.args.rows.now) c.requires.room, class_counts c.args.side.now))
 
-pub returns-clause-within : goal.returns-clause-within
-returns-clause-within c = rw c.div_ceil-count.ensures (room c.args.total (length c.args.rows.now) c.requires.room)
+pub returns-clause-few : goal.returns-clause-few
+returns-clause-few c =
+    let few : c.cut_class.result ≤ most_rows = few_blocks c.args.total _ refl c.cut_class.result (omega (arith, class_counts c.args.side.now)) in
+    omega arith
+
+pub returns-clause-items : goal.returns-clause-items
+returns-clause-items c = classes_on c.args.side.now _ _ _ c.cut_class-points.ensures.items c.cut_class-lines.ensures.items c.cut_class.ensures.items

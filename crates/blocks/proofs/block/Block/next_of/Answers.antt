@@ -32,7 +32,7 @@ invariant_of-result c = elim c.loop-test.branch [
 pub returns-clause-left : goal.returns-clause-left
 returns-clause-left c = elim c.loop-test.branch [
   | else-loop-test w ↦ let e : c.loop.counter ≡ c.args.size = omega arith in
-      let p = rw e at c.loop.invariant.passed in ap items_left w.items-is ∙ (p.rest ∙ ap (drop c.args.size) c.reach_next.ensures)
+      let p = rw e at c.loop.invariant.passed in ap items_left w.items-is ∙ (p.rest ∙ ap (drop c.args.size) c.reach_next.ensures.left)
   | then-loop-test+in-None w ↦ let s = w.in-None.ensures.steps in
-      let p = passed_last c.loop.invariant.passed s.0 s.1 c.args.size (omega arith) in ap items_left w.items-is ∙ (p.rest ∙ ap (drop c.args.size) c.reach_next.ensures)
+      let p = passed_last c.loop.invariant.passed s.0 s.1 c.args.size (omega arith) in ap items_left w.items-is ∙ (p.rest ∙ ap (drop c.args.size) c.reach_next.ensures.left)
 ]
