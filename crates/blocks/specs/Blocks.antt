@@ -8,9 +8,13 @@ use Rattle.blocks.specs.declared.block.Block.{Block}
 abbrev pub most_full : ℕ
 most_full = 128
 
--- there is room for so many blocks: each class but the last may end with one that is not full
+-- there is room for so many blocks
 abbrev pub most_rows : ℕ
-most_rows = 130
+most_rows = 128
+
+-- and for so many where each class is cut by itself: each but the last may end with one that is not full
+abbrev pub most_rows_by_class : ℕ
+most_rows_by_class = 130
 
 -- the items of a block: the next so many, or all that are left
 abbrev pub block_items : Block → List Item

@@ -1,18 +1,21 @@
 // Many items in blocks: all items of a side in order, so many to a block, each block with a box that covers it. What is
-// skipped against that box would be skipped against each item's own (`block_passed`). Each class is cut by itself and
-// may end with a block of fewer: the box of a side's last points with its first lines would cover next to all of it.
+// skipped against that box would be skipped against each item's own (`block_passed`). The sweep takes each class by
+// itself, which may end with a block of fewer (`cut_by_class`): the box of a side's last points with its first lines
+// would cover next to all of it. `cut` makes blocks of all items as they follow each other, which are no more than 128.
 #![tactic(auto)]
 
 mod block;
 mod cover;
+mod in_order;
 
 ghost use Rattle.std.specs.Prelude.{◌≡◌, ◌⊎◌, ◌+◌, ◌*◌, ◌/◌, ◌≤◌, ◌<◌, ◌++◌, length, take};
 ghost use Rattle.std.specs.List.{flat_map, All};
 ghost use Rattle.items.specs.Items.{items_of};
 ghost use Rattle.items.specs.Inner.{class_items};
-ghost use Rattle.blocks.specs.Blocks.{most_full, most_rows, block_items};
+ghost use Rattle.blocks.specs.Blocks.{most_full, most_rows_by_class, block_items};
 
 pub use block::Block;
+pub use in_order::cut;
 use items::Items;
 use parts::{Class, Stored};
 
@@ -48,10 +51,10 @@ fn cut_class<'a>(
 
 // All items of a side, total of them, in blocks of one size, class by class; how many these are. A block has 8 items or
 // more, but for the last of a class, so that few items need fewer rows.
-pub fn cut<'a>(total: usize, side: &Stored<'a>, rows: &mut [Block<'a>]) -> usize
+pub fn cut_by_class<'a>(total: usize, side: &Stored<'a>, rows: &mut [Block<'a>]) -> usize
     requires all { total ≡ length (items_of side.now) }
-    requires room { (most_rows ≤ length rows.old) ⊎ (total + 16 ≤ 8 * length rows.old) }
-    ensures few { result ≤ most_rows }
+    requires room { (most_rows_by_class ≤ length rows.old) ⊎ (total + 16 ≤ 8 * length rows.old) }
+    ensures few { result ≤ most_rows_by_class }
     ensures within { result ≤ length rows.old }
     ensures items { flat_map block_items (take result rows.new) ≡ items_of side.now }
     ensures lt_size { All (λ b. 1 < b.size) (take result rows.new) }

@@ -9,7 +9,7 @@ ghost use Rattle.items.specs.Items.{items_of};
 ghost use Rattle.items.specs.declared.Item.TheVariants.{Point as point};
 ghost use Rattle.items.specs.Closest.{with_each, sweep_of, closest_of};
 ghost use Rattle.listing.specs.Listing.{most_listed};
-ghost use Rattle.blocks.specs.Blocks.{most_rows};
+ghost use Rattle.blocks.specs.Blocks.{most_rows_by_class};
 ghost use Rattle.against.specs.Indexed.{indexed_items, listed_rows};
 
 use against::{Before, Index, Target};
@@ -57,10 +57,10 @@ fn sweep_blocks<'b>(
     rows: &mut [Block<'b>],
 ) -> BestSoFar<Closest>
     requires count { count ≡ length (items_of b.now) }
-    requires room { (most_rows ≤ length rows.old) ⊎ (count + 16 ≤ 8 * length rows.old) }
+    requires room { (most_rows_by_class ≤ length rows.old) ⊎ (count + 16 ≤ 8 * length rows.old) }
     ensures { result ≡ sweep_of all (items_of b.now) None (items_of a.now) }
 {
-    let cut = blocks::cut(count, b, rows);
+    let cut = blocks::cut_by_class(count, b, rows);
     let index = Index::Blocks(&rows[..cut]);
     sweep_all(&Target { index, all, stop }, a)
 }
