@@ -6,8 +6,8 @@ ghost use Rattle.std.specs.Prelude.{◌≤◌, ◌-◌, length};
 
 use joining::join;
 use records::{
-    Outcome, Reader, Record, RecordError, Records, Refused, Tally, holds, lend, outcome_if_lent,
-    read_file, report,
+    Outcome, Reader, Record, RecordError, Records, Refused, Tally, holds_by_pattern, lend,
+    outcome_if_lent, read_file, report,
 };
 use std::alloc::{AllocError, Global};
 use std::io;
@@ -58,7 +58,7 @@ impl Call<'_> {
             Some((lent, _)) => Some(join(self.a, self.b, lent).map_err(Refused::from)),
             None => None,
         };
-        Ok(outcome == self.outcome && holds(&output, self.written))
+        Ok(outcome == self.outcome && holds_by_pattern(&output, self.written))
     }
 }
 

@@ -1,9 +1,9 @@
 // The memory that a call is lent: what it holds before, and whether it holds what is expected afterwards.
 ghost use Rattle.std.specs.Prelude.{◌≡◌, ◌==◌, Bool, not, IfOk, length, drop, count_by, replicate};
-ghost use Rattle.records.specs.Lent.{is_next, holds_of, same_float};
+ghost use Rattle.records.specs.Lent.{is_next, holds_by_pattern, same_float};
 ghost use Rattle.records.specs.declared.lent.TheConstants.{FLOAT_MARK, NUMBER_MARK};
 
-use crate::number::Number;
+use crate::number::ByPattern;
 use crate::reader::Reader;
 use ieee754::to_pattern;
 use std::alloc::{AllocError, Global};
@@ -100,7 +100,7 @@ pub fn changed<T: Lent>(memory: &[T], from: usize) -> usize
 }
 
 // Is it the next number, or a mark where none is left?
-fn is_next<T: Lent + Number>(x: T, held: &mut Reader) -> bool
+fn is_next<T: Lent + ByPattern>(x: T, held: &mut Reader) -> bool
     ensures value { result ≡ is_next T.is T.is_at T.Lent.MARK T.SIZE x held.old }
     ensures rest { held.new ≡ drop T.SIZE held.old }
 {
@@ -110,9 +110,9 @@ fn is_next<T: Lent + Number>(x: T, held: &mut Reader) -> bool
     }
 }
 
-// Does memory begin with the numbers of these bytes, and keep its marks after them?
-pub fn holds<T: Lent + Number>(memory: &[T], held: &[u8]) -> bool
-    ensures { result ≡ holds_of T.is T.is_at T.Lent.MARK T.SIZE memory.now held.now }
+// Does memory begin with the numbers of these bytes, each by its pattern, and keep its marks after them?
+pub fn holds_by_pattern<T: Lent + ByPattern>(memory: &[T], held: &[u8]) -> bool
+    ensures { result ≡ holds_by_pattern T.is T.is_at T.Lent.MARK T.SIZE memory.now held.now }
 {
     let mut left = Reader::new(held);
     for x in memory {

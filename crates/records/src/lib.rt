@@ -8,12 +8,14 @@ mod number;
 mod reader;
 mod refused;
 mod tally;
+mod values;
 mod workspace;
 
 pub use file::read_file;
-pub use lent::{Lent, changed, holds, lend};
-pub use number::Number;
+pub use lent::{Lent, changed, holds_by_pattern, lend};
+pub use number::{ByPattern, Number};
 pub use reader::{Reader, Record, RecordError, Records};
 pub use refused::{Outcome, Refused, outcome_if_lent, outcome_of};
 pub use tally::{Tally, report};
+pub use values::holds;
 pub use workspace::{Held, Workspace, WorkspaceSize};

@@ -11,18 +11,21 @@ pub trait Number: Copy {
 
     ghost value: { List ℕ → Self };
 
-    ghost is_at: { Self → List ℕ → Bool };
-
     const SIZE: usize;
 
     // The number that bytes begin with.
     fn from_bytes(bytes: &[u8]) -> Self
         requires { SIZE ≤ length bytes.now }
         ensures { result ≡ value bytes.now };
+}
+
+// A number that is looked for in bytes by their pattern: of a NaN one alone stands in a record.
+pub trait ByPattern: Number {
+    ghost is_at: { Self → List ℕ → Bool };
 
     // Whether bytes begin with it.
     fn is_at(self, bytes: &[u8]) -> bool
-        requires { SIZE ≤ length bytes.now }
+        requires { Self.SIZE ≤ length bytes.now }
         ensures { result ≡ is_at self bytes.now };
 }
 
@@ -32,13 +35,15 @@ impl Number for u8 {
 
     ghost value = { λ s. slice_index s 0 };
 
-    ghost is_at = { λ x s. x == slice_index s 0 };
-
     const SIZE: usize = 1;
 
     fn from_bytes(bytes: &[u8]) -> u8 {
         bytes[0]
     }
+}
+
+impl ByPattern for u8 {
+    ghost is_at = { λ x s. x == slice_index s 0 };
 
     fn is_at(self, bytes: &[u8]) -> bool {
         self == u8::from_bytes(bytes)
@@ -50,13 +55,15 @@ impl Number for u32 {
 
     ghost value = { λ s. u32_at true s 0 };
 
-    ghost is_at = { λ x s. x == u32_at true s 0 };
-
     const SIZE: usize = 4;
 
     fn from_bytes(bytes: &[u8]) -> u32 {
         fields::u32_at(bytes, 0, true)
     }
+}
+
+impl ByPattern for u32 {
+    ghost is_at = { λ x s. x == u32_at true s 0 };
 
     fn is_at(self, bytes: &[u8]) -> bool {
         self == u32::from_bytes(bytes)
@@ -68,32 +75,36 @@ impl Number for u64 {
 
     ghost value = { λ s. u64_at true s 0 };
 
-    ghost is_at = { λ x s. x == u64_at true s 0 };
-
     const SIZE: usize = 8;
 
     fn from_bytes(bytes: &[u8]) -> u64 {
         fields::u64_at(bytes, 0, true)
     }
+}
+
+impl ByPattern for u64 {
+    ghost is_at = { λ x s. x == u64_at true s 0 };
 
     fn is_at(self, bytes: &[u8]) -> bool {
         self == u64::from_bytes(bytes)
     }
 }
 
-// The f64 of a pattern. A NaN stands in a record by one pattern alone.
+// The f64 of a pattern.
 impl Number for f64 {
     ghost SIZE = { 8 };
 
     ghost value = { λ s. f64_at true s 0 };
-
-    ghost is_at = { pattern_at };
 
     const SIZE: usize = 8;
 
     fn from_bytes(bytes: &[u8]) -> f64 {
         fields::f64_at(bytes, 0, true)
     }
+}
+
+impl ByPattern for f64 {
+    ghost is_at = { pattern_at };
 
     fn is_at(self, bytes: &[u8]) -> bool {
         to_pattern(self) == u64::from_bytes(bytes)

@@ -2,9 +2,9 @@
 ghost use Rattle.std.specs.Prelude.{◌≡◌, ◌-◌, ◌*◌, ◌≤◌, ◌&&◌, IfOk, true};
 ghost use Rattle.std.specs.Prelude.{length, take, drop, replicate};
 ghost use Rattle.fields.specs.Fields.{u32_at};
-ghost use Rattle.records.specs.Lent.{floats_hold, numbers_hold};
+ghost use Rattle.records.specs.Lent.{floats_hold_by_pattern, numbers_hold_by_pattern};
 
-use crate::lent::{Lent, holds, lend};
+use crate::lent::{Lent, holds_by_pattern, lend};
 use crate::reader::{Reader, Record, RecordError};
 use std::alloc::{AllocError, Global};
 
@@ -53,12 +53,12 @@ impl<'a> Held<'a> {
         Ok(Held { floats, table })
     }
 
-    // Does a workspace begin with this, and keep its marks after it?
-    pub fn is_in(&self, floats: &[f64], table: &[u32]) -> bool
-        ensures { result ≡ (floats_hold floats.now self.now.floats.now
-            && numbers_hold table.now self.now.table.now) }
+    // Does a workspace begin with this, each number by its pattern, and keep its marks after it?
+    pub fn is_in_by_pattern(&self, floats: &[f64], table: &[u32]) -> bool
+        ensures { result ≡ (floats_hold_by_pattern floats.now self.now.floats.now
+            && numbers_hold_by_pattern table.now self.now.table.now) }
     {
-        holds(floats, self.floats) && holds(table, self.table)
+        holds_by_pattern(floats, self.floats) && holds_by_pattern(table, self.table)
     }
 }
 

@@ -19,7 +19,7 @@ use Rattle.replay.specs.declared.reply.Reply.TheVariants as reply
 use Rattle.records.specs.declared.refused.Refused.{Refused}
 use Rattle.records.specs.declared.workspace.WorkspaceSize.{WorkspaceSize}
 use Rattle.records.specs.declared.reader.RecordError.{RecordError}
-use Rattle.records.specs.Lent.{floats_hold, numbers_hold, bytes_hold, floats_lent, numbers_lent, bytes_lent}
+use Rattle.records.specs.Lent.{floats_hold_by_pattern, numbers_hold_by_pattern, bytes_hold_by_pattern, floats_lent, numbers_lent, bytes_lent}
 use Rattle.replay.specs.declared.call.Call.{Call}
 use Rattle.replay.specs.declared.call.Operation.{Operation}
 use Rattle.replay.specs.declared.call.Operation.TheVariants as op
@@ -139,9 +139,9 @@ marked s t = workspaces (floats_lent s.floats) (numbers_lent s.numbers) (floats_
 -- that is what the record expects: the reply, and what the memory holds, with no mark lost behind it
 pub record Expects (c : Call) (expected : Reply) (r : Called) : Type 0 where
   pub reply : r.reply ≡ expected
-  pub first : (floats_hold r.memory.floats1 c.held1.floats.now && numbers_hold r.memory.table1 c.held1.table.now) ≡ true
-  pub second : (floats_hold r.memory.floats2 c.held2.floats.now && numbers_hold r.memory.table2 c.held2.table.now) ≡ true
-  pub output : bytes_hold r.output c.output.now ≡ true
+  pub first : (floats_hold_by_pattern r.memory.floats1 c.held1.floats.now && numbers_hold_by_pattern r.memory.table1 c.held1.table.now) ≡ true
+  pub second : (floats_hold_by_pattern r.memory.floats2 c.held2.floats.now && numbers_hold_by_pattern r.memory.table2 c.held2.table.now) ≡ true
+  pub output : bytes_hold_by_pattern r.output c.output.now ≡ true
 
 -- where a patch is asked for, the patch of that number too, whatever the record lends
 abbrev pub ByCursor : Call → Reply → Type 0

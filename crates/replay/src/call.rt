@@ -8,7 +8,9 @@ use crate::reply::Reply;
 use blob::blob_sizes;
 use ieee754::from_pattern;
 use interpolation::st_3d_line_interpolate_point;
-use records::{Held, Reader, Record, RecordError, Refused, Workspace, WorkspaceSize, holds, lend};
+use records::{
+    Held, Reader, Record, RecordError, Refused, Workspace, WorkspaceSize, holds_by_pattern, lend,
+};
 use std::alloc::{AllocError, Global};
 use surface::patch_range;
 use threed_closest::{
@@ -190,9 +192,9 @@ impl Call<'_> {
     {
         let reply = self.reply_by_front(floats1, table1, floats2, table2, output);
         reply == expected
-            && self.held1.is_in(floats1, table1)
-            && self.held2.is_in(floats2, table2)
-            && holds(output, self.output)
+            && self.held1.is_in_by_pattern(floats1, table1)
+            && self.held2.is_in_by_pattern(floats2, table2)
+            && holds_by_pattern(output, self.output)
     }
 
     // The library's reply, lent the front of this memory, as much of it as the record says.
