@@ -63,7 +63,7 @@
 #include <stddef.h>
 #include <stdint.h>
 
-#define VISKORREL_VERSION "0.7.5"
+#define VISKORREL_VERSION "0.7.6"
 
 #ifdef __cplusplus
 extern "C" {

@@ -17,7 +17,7 @@ from ._operations import (
 from ._refusal import Refusal
 from ._root import RootAndDigits, root_digits
 
-__version__ = "0.7.5"
+__version__ = "0.7.6"
 
 __all__ = [
     "Blobs", "Hit", "LibraryMissing", "Nearest", "NoSurface", "Refusal", "RootAndDigits", "Tape", "batch", "closest_point", "dfully_within",
