@@ -1,4 +1,4 @@
-// All items of a side as they follow each other, whatever their class, in no more blocks than full ones would be.
+// All items of a side as they follow each other, whatever their class, in as few blocks of a size as hold them.
 ghost use Rattle.std.specs.Prelude.{◌≡◌, ◌⊎◌, ◌+◌, ◌*◌, ◌/◌, ◌≤◌, ◌<◌, length, take};
 ghost use Rattle.std.specs.List.{flat_map, All};
 ghost use Rattle.items.specs.Items.{items_of};

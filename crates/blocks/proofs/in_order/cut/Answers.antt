@@ -11,13 +11,13 @@ use Rattle.blocks.proofs.Room.{room}
 use Rattle.blocks.proofs.in_order.cut.Goals as goal
 
 pub slice_bounds-row-items-end : goal.slice_bounds-row-items-end
-slice_bounds-row-items-end c = rw c.div_ceil-count.ensures (room c.args.total (length c.args.rows.now) c.requires.room)
+slice_bounds-row-items-end c = omega (arith, room c.args.total (length c.args.rows.now) c.requires.room)
 
 pub slice_bounds-row-items-end-2 : goal.slice_bounds-row-items-end-2
-slice_bounds-row-items-end-2 c = sym (length-take-le _ _ (rw c.div_ceil-count.ensures (room c.args.total (length c.args.rows.now) c.requires.room)))
+slice_bounds-row-items-end-2 c = sym (length-take-le _ _ (omega (arith, room c.args.total (length c.args.rows.now) c.requires.room)))
 
 pub returns-clause-within : goal.returns-clause-within
-returns-clause-within c = rw c.div_ceil-count.ensures (room c.args.total (length c.args.rows.now) c.requires.room)
+returns-clause-within c = omega (arith, room c.args.total (length c.args.rows.now) c.requires.room)
 
 pub loop-row-preserved : goal.loop-row-preserved
 loop-row-preserved c =
